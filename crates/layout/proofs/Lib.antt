@@ -1,0 +1,4 @@
+pub mod Tests
+pub mod Fields
+pub mod Xors
+pub mod Runs

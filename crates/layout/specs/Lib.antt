@@ -1,0 +1,7 @@
+pub mod Rows
+pub mod Windows
+pub mod Writing
+pub mod Reading
+pub mod Answers
+pub mod Marked
+pub mod Promises

@@ -1,0 +1,49 @@
+-- The rows in which a dod is written, and its signed field: document 01, the table and "Reading a field of n bits".
+use Prim.Native.Nat.{ℕ, suc, _-_, _^_}
+use mathlib.Core.Bool.{Bool, cond, _&&_}
+use mathlib.Core.List.{List, [], _∷_}
+use lib.Dec.{ltb}
+use lib.IntN.{ℤ, pos, negsuc, negℤ}
+use lib.Signed.{leZ}
+use Rattle.layout.specs.declared.Row.{Row}
+
+-- ---- the table: prefix, its length, field bits, lowest and highest dod
+
+abbrev pub row : ℕ → ℕ → ℕ → ℤ → ℤ → Row
+row p k n lo hi = record { prefix = p; «prefix_len» = k; width = n; lowest = lo; highest = hi }
+
+abbrev pub row7 : Row
+row7 = row 0b10 2 7 (negℤ (pos 63)) (pos 64)
+
+abbrev pub row9 : Row
+row9 = row 0b110 3 9 (negℤ (pos 255)) (pos 256)
+
+abbrev pub row12 : Row
+row12 = row 0b1110 4 12 (negℤ (pos 2047)) (pos 2048)
+
+abbrev pub row32 : Row
+row32 = row 0b1111 4 32 (negℤ (pos 2147483647)) (pos 2147483648)
+
+abbrev pub longerRows : List Row
+longerRows = row9 ∷ row12 ∷ row32 ∷ []
+
+abbrev pub rows : List Row
+rows = row7 ∷ longerRows
+
+unfoldable pub fits : Row → ℤ → Bool
+fits r d = leZ (r .lowest) d && leZ d (r .highest)
+
+-- ---- the field, over its width n
+
+-- the dods that it takes: -(2^(n - 1) - 1) to 2^(n - 1)
+unfoldable pub inField : ℕ → ℤ → Bool
+inField n d = leZ (negℤ (pos (2 ^ (n - 1) - 1))) d && leZ d (pos (2 ^ (n - 1)))
+
+-- the number in it: negsuc a is -(a + 1)
+unfoldable pub raw : ℕ → ℤ → ℕ
+raw n (pos a) = a
+raw n (negsuc a) = 2 ^ n - suc a
+
+-- a raw number above 2^(n - 1) stands for raw - 2^n, otherwise for itself
+unfoldable pub signed : ℕ → ℕ → ℤ
+signed n x = cond (ltb (2 ^ (n - 1)) x) (negℤ (pos (2 ^ n - x))) (pos x)
