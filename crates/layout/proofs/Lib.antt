@@ -2,3 +2,5 @@ pub mod Tests
 pub mod Fields
 pub mod Xors
 pub mod Runs
+pub mod Marked
+pub mod Prefix

@@ -7,7 +7,7 @@ use lib.Dec.{leb, ltb}
 use lib.ListN.{length, replicate}
 use Rattle.layout.specs.Windows.{Window, decoderWindow}
 use Rattle.layout.specs.Writing.{State, Progress, begun, going}
-use Rattle.layout.specs.Reading.{Outcome, got, cut, run, readStart, Label, item, Found, point, ending, wrong, readNext}
+use Rattle.layout.specs.Reading.{Outcome, got, cut, run, readStart, Label, Found, point, ending, wrong, readNext}
 
 -- ---- one step
 
@@ -25,7 +25,7 @@ position (wrongAt k q) = q
 
 -- the refusal where a field is not wholly there
 abbrev pub lackOf : Label → ℕ
-lackOf (item kind back) = 7
+lackOf l = 7
 
 unfoldable pub reached : Outcome Label Found → Reached
 reached (got (point s) q) = pointAt s q
