@@ -4,3 +4,5 @@ pub mod Xors
 pub mod Runs
 pub mod Marked
 pub mod Prefix
+pub mod Times
+pub mod Values
