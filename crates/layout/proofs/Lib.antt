@@ -6,3 +6,6 @@ pub mod Marked
 pub mod Prefix
 pub mod Times
 pub mod Values
+pub mod Round
+pub mod Closed
+pub mod Sizes

@@ -25,7 +25,7 @@ unfoldable tailBits : Row → List Row → ℤ → List Bool
 tailBits r [] d = bitsOf (r .width) (raw (r .width) d)
 tailBits r (r′ ∷ rs) d = cond (fits r d) (false ∷ bitsOf (r .width) (raw (r .width) d)) (true ∷ tailBits r′ rs d)
 
-abbrev lastFits : Row → List Row → ℤ → Bool
+abbrev pub lastFits : Row → List Row → ℤ → Bool
 lastFits r [] d = fits r d
 lastFits r (r′ ∷ rs) d = lastFits r′ rs d
 
