@@ -74,13 +74,13 @@ module _ (c : ℕ) where
       let g′ = going (stateAfter c g p) in
       let a = aPoint (p .time) (p .value) q in
       elim (decLe q j) [
-    | yes i ↦
-        rw (cut-in j a (back c n q g′ ps) i)
-        (end-cut n q j g′ ps (le-of-suc-le-suc h) (omega (arith, length-append (pointBits c g p) (restBits c g′ ps))))
-    | no i ↦
-        rw (cut-out j a (back c n q g′ ps) (lt-of-not-le i), length-back n q g′ ps)
-        (getD-replicate n (length ps) (refusal (lack j)) (anEnd 0) (le-of-suc-le-suc h))
-  ]
+        | yes i ↦
+            rw (cut-in j a (back c n q g′ ps) i)
+            (end-cut n q j g′ ps (le-of-suc-le-suc h) (omega (arith, length-append (pointBits c g p) (restBits c g′ ps))))
+        | no i ↦
+            rw (cut-out j a (back c n q g′ ps) (lt-of-not-le i), length-back n q g′ ps)
+            (getD-replicate n (length ps) (refusal (lack j)) (anEnd 0) (le-of-suc-le-suc h))
+      ]
 
   module _ (start : ℕ) (ps : List Point) (b : start < 2 ^ 64) (ok : Accepted c (opened c start) ps) where
     given : (n j : ℕ) → answers c n (take j (streamBits c start ps)) ≡ cutTo j (back c n 64 (opened c start) ps)
@@ -117,8 +117,9 @@ lack-bytes k = elim (decLe 8 k) [
 
 pub closed-cut : (c : ℕ) → ClosedCuts c
 closed-cut c start ps b ok = record {
-    given = given c start ps b ok;
-    ends = ends c start ps b ok;
-    bytes-given = λ n k l e h. rw (byte-cut c start ps b ok k l e h .0) (given c start ps b ok n (8 * k));
-    bytes-end = λ n k l e h m.
-    rw (byte-cut c start ps b ok k l e h .0, ← (lack-bytes k)) (ends c start ps b ok n (8 * k) (byte-cut c start ps b ok k l e h .1) m) }
+  given = given c start ps b ok;
+  ends = ends c start ps b ok;
+  bytes-given = λ n k l e h. rw (byte-cut c start ps b ok k l e h .0) (given c start ps b ok n (8 * k));
+  bytes-end = λ n k l e h m.
+      rw (byte-cut c start ps b ok k l e h .0, ← (lack-bytes k)) (ends c start ps b ok n (8 * k) (byte-cut c start ps b ok k l e h .1) m);
+}

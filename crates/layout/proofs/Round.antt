@@ -184,9 +184,9 @@ module _ (c : ℕ) where
   start-back start ps junk b =
       let all = streamBits c start ps ++ junk in
       let r : run readStart 0 all ≡ got start 64 =
-          run-on readStart 0 all (omega arith)
-          ∙ ap (runOn readStart 0) (append-assoc (bitsOf 64 start) (restBits c (opened c start) ps) junk)
-          ∙ run-field tt 64 (λ x. done x) 0 start (restBits c (opened c start) ps ++ junk) b in
+      run-on readStart 0 all (omega arith)
+      ∙ ap (runOn readStart 0) (append-assoc (bitsOf 64 start) (restBits c (opened c start) ps) junk)
+      ∙ run-field tt 64 (λ x. done x) 0 start (restBits c (opened c start) ps ++ junk) b in
       ap (λ (o : Outcome (Unit {0}) ℕ). afterStart c decoderWindow o all) r
 
   pub points-come-back : PointsComeBack c

@@ -63,7 +63,7 @@ module _ {L A : Type 0} where
     ]
     | no h ↦
         rw (run-cut l n f p s (lt-of-not-le h), run-cut l n f p (take j s) (rw length-take (omega (arith, lt-of-not-le h))))
-        (elim (decLe (p + n) j) [ | yes i ↦ same {o = cut l p n} i | no i ↦ late {o = cut l p n} (lt-of-not-le i) ])
+        (elim (decLe (p + n) j) [ yes i ↦ same {o = cut l p n} i | no i ↦ late {o = cut l p n} (lt-of-not-le i) ])
   ]
 
 -- ---- the bits that are left

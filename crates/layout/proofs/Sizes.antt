@@ -11,7 +11,7 @@ use lib.Count.{leadingZeros, trailingZeros}
 use Rattle.stream.specs.Bits.{odd, bitsOf, bytesFor}
 use Rattle.stream.proofs.Numbers.{length-bitsOf}
 use Rattle.layout.specs.declared.Row.{Row}
-use Rattle.layout.specs.Rows.{row7, longerRows, rows, fits, raw}
+use Rattle.layout.specs.Rows.{within, row7, longerRows, rows, fits, raw}
 use Rattle.layout.specs.Windows.{Window, digits, reuses, tight, reuseBits, openBits, xorBits, windowAfter}
 use Rattle.layout.specs.Writing.{Point, State, Progress, begun, going, dodOf, inRange, timeFault, inRow, rowBits, dodBits, startBits, marker, firstBits, laterBits, pointBits, firstState, laterState, stateAfter, restBits, opened, streamBits, Accepted}
 use Rattle.layout.specs.Promises.{Every, Sizes}
@@ -43,7 +43,7 @@ row-size r (r′ ∷ rs) d h t =
     (λ e. row-size r′ rs d h (t .1))
 
 dod-size : (d : ℤ) → inRange d ≡ true → Between 1 36 (length (dodBits d))
-unfolding dodBits inRange fits
+unfolding dodBits
 dod-size (pos zero) h = (omega arith, omega arith)
 dod-size (pos (suc a)) h = row-size row7 longerRows (pos (suc a)) h row-sizes
 dod-size (negsuc a) h = row-size row7 longerRows (negsuc a) h row-sizes
@@ -96,7 +96,7 @@ module _ (c : ℕ) where
 -- ---- values of 64 bits
 
 some-size : (start : ℕ) (ps : List Point) → Accepted 6 (opened 6 start) ps → 1 ≤ length ps
-    → Between (179 + 2 * (length ps - 1)) (179 + 114 * (length ps - 1)) (length (streamBits 6 start ps))
+    → Between (115 + 2 ^ 6 + 2 * (length ps - 1)) (115 + 2 ^ 6 + most 6 * (length ps - 1)) (length (streamBits 6 start ps))
 some-size start [] ok h = absurd (omega arith)
 some-size start (p ∷ ps) ok h = let s = stream-size 6 start p ps ok in (omega (arith, s .0), omega (arith, s .1))
 
@@ -104,11 +104,12 @@ empty-bytes : (start : ℕ) → bytesFor (length (streamBits 6 start [])) ≡ 13
 empty-bytes start = rw (empty-size 6 start)
 
 pub sizes : Sizes
-unfolding odd bitsOf fits raw reuses tight reuseBits openBits xorBits windowAfter inRange inRow rowBits dodBits startBits marker firstBits laterBits pointBits firstState laterState stateAfter restBits streamBits leadingZeros trailingZeros
+unfolding odd bitsOf within raw reuses tight reuseBits openBits xorBits windowAfter inRow rowBits dodBits startBits marker firstBits laterBits pointBits firstState laterState stateAfter restBits streamBits leadingZeros trailingZeros
 sizes = record {
-    empty = empty-size 6;
-    empty-bytes = empty-bytes;
-    least = λ start ps ok h. some-size start ps ok h .0;
-    most = λ start ps ok h. some-size start ps ok h .1;
-    least-met = refl;
-    most-met = refl }
+  empty = empty-size 6;
+  empty-bytes = empty-bytes;
+  least = λ start ps ok h. omega (arith, some-size start ps ok h .0);
+  most = λ start ps ok h. omega (arith, some-size start ps ok h .1);
+  least-met = refl;
+  most-met = refl;
+}

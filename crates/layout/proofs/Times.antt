@@ -70,7 +70,7 @@ module _ (f : ℤ → Reader) (d : ℤ) (rest : List Bool) where
       ∙ moved _ _ (omega arith))
 
   row-back : (p : ℕ) → inRange d ≡ true → ¬ (d ≡ pos 0) → Gives (readDod f) p (rowBits rows d)
-  unfolding readDod inRange fits digit
+  unfolding readDod digit
   row-back p h z =
       rw (row-tail (true ∷ []) row7 longerRows d table h)
       (run-bit _ _ p true (tailBits row7 longerRows d ++ rest)

@@ -103,7 +103,8 @@ module _ (c : ℕ) (w : Window) (x : ℕ) where
 
 pub windows : (c : ℕ) → WindowLaws c
 windows c = record {
-    back = λ w x e. trailing-back (2 ^ c) (w .trail) x (reused c w x e .1);
-    fit = λ w x b e. digits-fit c w x b (reused c w x e .0);
-    twice = xor-twice;
-    zeros = zeros-lt (2 ^ c) }
+  back = λ w x e. trailing-back (2 ^ c) (w .trail) x (reused c w x e .1);
+  fit = λ w x b e. digits-fit c w x b (reused c w x e .0);
+  twice = xor-twice;
+  zeros = zeros-lt (2 ^ c);
+}

@@ -3,5 +3,5 @@ pub mod Windows
 pub mod Writing
 pub mod Reading
 pub mod Answers
-pub mod Marked
+pub mod Cases
 pub mod Promises

@@ -1,5 +1,5 @@
 -- What is promised of the layout: of its fields and windows, of reading what was written, of a part of the bits, and of sizes.
--- (`marked` stands with its cases in Marked.)
+-- (`marked` stands with its cases in Cases.)
 use mathlib.Core.Path.{_≡_}
 use Prim.Native.Nat.{ℕ, zero, suc, _+_, _-_, _*_, _/_, _^_, _≤_, _<_}
 use mathlib.Core.Bool.{Bool, true, cond}

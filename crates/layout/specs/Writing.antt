@@ -2,15 +2,14 @@
 -- The parameter c gives the width of a value, 2 ^ c bits: 6 for 64 bits.
 use mathlib.Core.Path.{_≡_}
 use Prim.Native.Nat.{ℕ, zero, suc, _+_, _-_, _^_, _<_}
-use mathlib.Core.Bool.{Bool, true, false, cond, _&&_}
+use mathlib.Core.Bool.{Bool, true, false, cond}
 use mathlib.Core.List.{List, [], _∷_, _++_}
 use lib.Dec.{ltb}
-use lib.IntN.{ℤ, pos, negsuc, negℤ, subℕ}
-use lib.Signed.{leZ}
+use lib.IntN.{ℤ, pos, negsuc, subℕ}
 use lib.Bits.{bitXor}
 use Rattle.stream.specs.Bits.{bitsOf}
 use Rattle.layout.specs.declared.Row.{Row}
-use Rattle.layout.specs.Rows.{rows, fits, raw}
+use Rattle.layout.specs.Rows.{minus, within, rows, fits, raw}
 use Rattle.layout.specs.Windows.{Window, encoderWindow, xorBits, windowAfter}
 
 -- ---- what both ends keep
@@ -45,8 +44,8 @@ abbrev pub dodOf : State → ℕ → ℤ
 dodOf s t = subℕ (t - s .time) (s .delta)
 
 -- -(2^31 - 1) to 2^31
-unfoldable pub inRange : ℤ → Bool
-inRange d = leZ (negℤ (pos 2147483647)) d && leZ d (pos 2147483648)
+abbrev pub inRange : ℤ → Bool
+inRange d = within (minus 2147483647) (pos 2147483648) d
 
 -- the refusal of an offered time, 0 for none: 2 if it falls, then 3 for a first delta, 4 for a dod
 unfoldable pub timeFault : Progress → ℕ → ℕ

@@ -15,7 +15,7 @@ use Rattle.stream.specs.Promises.{Digits}
 pub length-bitsOf : (n x : ℕ) → length (bitsOf n x) ≡ n
 unfolding bitsOf
 length-bitsOf zero x = refl
-length-bitsOf (suc n) x = ap suc (length-bitsOf n x)
+length-bitsOf (suc n) x = ap suc (length-bitsOf n _)
 
 -- ---- one digit
 

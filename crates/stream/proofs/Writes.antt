@@ -128,9 +128,10 @@ module _ (bs : List Bool) (p : ℕ) where
 
 pub writes-leave : WritesLeave
 writes-leave bs p f h = record {
-    back = field-replaced bs p f h;
-    before = λ q m l. sym (field-take p q m (replaced bs p f) l) ∙ ap (λ (k : List Bool). field k q m) (take-replaced bs p f h) ∙ field-take p q m bs l;
-    rest = rest-replaced bs p f h;
-    after = λ q m l. field-drop (edge (p + length f)) q m _ _ (drop-replaced bs p f h) l;
-    two = λ g. replaced-append bs p f g h;
-    size = λ m e l. length-replaced bs p m f e l }
+  back = field-replaced bs p f h;
+  before = λ q m l. sym (field-take p q m (replaced bs p f) l) ∙ ap (λ (k : List Bool). field k q m) (take-replaced bs p f h) ∙ field-take p q m bs l;
+  rest = rest-replaced bs p f h;
+  after = λ q m l. field-drop (edge (p + length f)) q m _ _ (drop-replaced bs p f h) l;
+  two = λ g. replaced-append bs p f g h;
+  size = λ m e l. length-replaced bs p m f e l;
+}

@@ -1,5 +1,5 @@
 -- Numbers and bytes as bits, highest first, and a field written over them: document 01, "The bit layout", first paragraph, and
--- what a write leaves.  The bit 1 is `true`, the bit 0 is `false`.
+-- what a write leaves. The bit 1 is `true`, the bit 0 is `false`.
 use mathlib.Core.Bool.{Bool, true, false}
 use mathlib.Core.List.{List, [], _∷_, _++_}
 use Prim.Native.Nat.{ℕ, zero, suc, _+_, _-_, _*_, _/_, _%_, _^_}
