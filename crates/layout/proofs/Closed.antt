@@ -1,22 +1,21 @@
 -- A closed stream that is cut.
-use mathlib.Core.Path.{_≡_, refl, sym, ap, ap₂, _∙_, subst}
-use Prim.Native.Nat.{ℕ, zero, suc, _+_, _-_, _*_, _/_, _^_, _≤_, _<_}
+use mathlib.Core.Path.{_≡_, refl, sym, ap, _∙_, subst}
+use Prim.Native.Nat.{ℕ, zero, suc, _+_, _*_, _^_, _≤_, _<_}
 use native.Mathlib.Nat.{lt-of-not-le, le-of-suc-le-suc}
 use native.Mathlib.Decide.{decLe}
 use native.Mathlib.Omega.{arith}
-use mathlib.Core.Bool.{Bool, false, cond}
-use mathlib.Core.List.{List, [], _∷_, _++_, append-nil, map}
-use lib.Dec.{leb, ltb}
+use mathlib.Core.Bool.{false, cond}
+use mathlib.Core.List.{List, [], _∷_, append-nil, map}
+use lib.Dec.{ltb}
 use lib.ListN.{length, take, replicate, getD, length-append, getD-replicate, length-replicate, length-map}
 use lib.Seq.{take-append-le}
 use borrow.Author.Tests.{le-leb, lt-leb, le-ltb, lt-ltb}
-use Rattle.stream.specs.Bits.{bits, bitsOf, edge, spare, padded}
+use Rattle.stream.specs.Bits.{bits, edge, spare, padded}
 use Rattle.stream.proofs.Numbers.{length-bitsOf}
 use Rattle.stream.proofs.Bytes.{length-bits, bits-take}
-use Rattle.stream.proofs.Writes.{edge-le}
 use Rattle.layout.specs.Writing.{Point, Progress, going, startBits, marker, pointBits, stateAfter, restBits, opened, streamBits, Accepted}
 use Rattle.layout.specs.Answers.{Reached, pointAt, endAt, wrongAt, position, Answer, aPoint, anEnd, refusal, answerOf, outcomes, answers, lack, torn}
-use Rattle.layout.specs.Promises.{placeOf, cutTo, back, ClosedCut, ClosedCuts}
+use Rattle.layout.specs.Promises.{placeOf, cutTo, back, ClosedCuts}
 use Rattle.layout.proofs.Prefix.{more-data}
 use Rattle.layout.proofs.Round.{points-come-back}
 

@@ -1,18 +1,18 @@
 -- The field of a dod, once over its width; and the rows, which cite it.
-use mathlib.Core.Path.{_≡_, refl, sym, ap, _∙_}
-use Prim.Native.Nat.{ℕ, zero, suc, _+_, _-_, _*_, _^_, _≤_, _<_}
-use native.Mathlib.Nat.{pow-suc, le-of-suc-le-suc}
+use mathlib.Core.Path.{_≡_, refl, ap, _∙_}
+use Prim.Native.Nat.{ℕ, zero, suc, _-_, _*_, _^_, _≤_, _<_}
+use native.Mathlib.Nat.{pow-suc}
 use native.Mathlib.Omega.{arith}
-use mathlib.Core.Bool.{Bool, true, false, cond, _&&_}
-use mathlib.Core.List.{List, [], _∷_, _++_, append-assoc}
-use lib.Dec.{leb, ltb, lit≤}
+use mathlib.Core.Bool.{Bool, true, false}
+use mathlib.Core.List.{List, [], _∷_, _++_}
+use lib.Dec.{leb, lit≤}
 use lib.Pow.{pow-pos}
-use lib.IntN.{ℤ, pos, negsuc, negℤ}
+use lib.IntN.{ℤ, pos, negsuc}
 use lib.Signed.{leZ}
 use borrow.Author.Tests.{leb-true, lt-ltb, le-ltb}
 use Rattle.stream.specs.Bits.{odd, bitsOf}
 use Rattle.layout.specs.declared.Row.{Row}
-use Rattle.layout.specs.Rows.{minus, within, row7, row9, row12, row32, longerRows, rows, fits, inField, raw, signed}
+use Rattle.layout.specs.Rows.{minus, within, row7, longerRows, fits, inField, raw, signed}
 use Rattle.layout.specs.Promises.{FieldBack, FieldsBack, Every, RowsBack}
 use Rattle.layout.proofs.Tests.{never, both}
 

@@ -6,17 +6,17 @@ use native.Mathlib.Decide.{decLe}
 use native.Mathlib.Omega.{arith}
 use mathlib.Core.Bool.{Bool}
 use mathlib.Core.List.{List, [], _∷_, map}
-use lib.ListN.{length, take, replicate, length-take}
+use lib.ListN.{length, take, replicate}
 use lib.Seq.{take-length}
 use borrow.Author.Tests.{le-ltb, lt-ltb, le-leb, lt-leb}
-use Rattle.stream.specs.Bits.{valueOf, bits, field}
+use Rattle.stream.specs.Bits.{bits}
 use Rattle.stream.proofs.Bytes.{bits-take}
 use Rattle.layout.specs.Windows.{decoderWindow}
-use Rattle.layout.specs.Writing.{Progress, begun, going}
-use Rattle.layout.specs.Reading.{Read, Outcome, got, cut, reach, run, readStart, Label, Found, point, ending, wrong, readNext}
+use Rattle.layout.specs.Writing.{begun, going}
+use Rattle.layout.specs.Reading.{Outcome, got, cut, reach, run, readStart, Label, Found, point, ending, wrong, readNext}
 use Rattle.layout.specs.Answers.{Reached, pointAt, endAt, wrongAt, position, reached, Answer, refusal, answerOf, step, afterStart, firstStep, nextStep, outcomesAfter, outcomes, answers, lack, torn}
 use Rattle.layout.specs.Promises.{Every, KeepsPrefix, MoreData}
-use Rattle.layout.proofs.Runs.{Upto, same, late, run-take, reach-from, run-there, run-cut}
+use Rattle.layout.proofs.Runs.{Upto, same, late, run-take, reach-from}
 
 position-reached : (o : Outcome Label Found) → position (reached o) ≡ reach o
 unfolding position reached reach

@@ -1,8 +1,8 @@
 -- The points of a closed stream come back.
 use mathlib.Core.Path.{_≡_, refl, sym, ap, _∙_}
-use Prim.Native.Nat.{ℕ, zero, suc, _+_, _-_, _*_, _^_, _≤_, _<_}
+use Prim.Native.Nat.{ℕ, zero, suc, _+_, _-_, _^_, _≤_, _<_}
 use native.Mathlib.Omega.{arith}
-use mathlib.Core.Bool.{Bool, true, false, cond}
+use mathlib.Core.Bool.{Bool, true, cond}
 use mathlib.Core.List.{List, [], _∷_, _++_, append-assoc, map}
 use lib.Dec.{eqb, ltb, lit<}
 use lib.IntN.{ℤ, pos, _+ℤ_}
@@ -12,10 +12,10 @@ use lib.Seq.{drop-drop, drop-at}
 use borrow.Author.Tests.{ltb-false}
 use Rattle.stream.specs.Bits.{odd, digit, bitsOf}
 use Rattle.stream.proofs.Numbers.{length-bitsOf}
-use Rattle.layout.specs.Windows.{Window, window, decoderWindow, encoderWindow, xorBits, windowAfter}
+use Rattle.layout.specs.Windows.{Window, window, decoderWindow, xorBits}
 use Rattle.layout.specs.Writing.{Point, State, state, Progress, begun, going, dodOf, inRange, timeFault, dodBits, startBits, marker, firstBits, laterBits, pointBits, firstState, laterState, stateAfter, restBits, opened, streamBits, Fitting, Accepted}
-use Rattle.layout.specs.Reading.{done, ask, Outcome, got, cut, run, readStart, Label, item, timeControl, timeField, valueDigits, firstMarker, Found, point, ending, wrong, Reader, readDod, newTime, markerRest, readMarker, readValue, afterDod, readLater, firstTime, readFirst, readNext}
-use Rattle.layout.specs.Answers.{Reached, pointAt, endAt, reached, Answer, aPoint, anEnd, answerOf, step, afterStart, firstStep, nextStep, outcomesAfter, outcomes, answers}
+use Rattle.layout.specs.Reading.{done, ask, Outcome, got, run, readStart, item, timeField, valueDigits, firstMarker, point, ending, wrong, Reader, newTime, markerRest, readMarker, readValue, afterDod, readLater, firstTime, readFirst, readNext}
+use Rattle.layout.specs.Answers.{pointAt, endAt, reached, Answer, anEnd, answerOf, step, afterStart, firstStep, nextStep, outcomesAfter, outcomes, answers}
 use Rattle.layout.specs.Promises.{back, PointsComeBack}
 use Rattle.layout.proofs.Tests.{unmet, met}
 use Rattle.layout.proofs.Times.{dod-back, delta-back, time-back, done-at, end-dod}

@@ -1,9 +1,9 @@
 -- How long a stream is.
-use mathlib.Core.Path.{_≡_, refl, sym, ap, _∙_}
-use Prim.Native.Nat.{ℕ, zero, suc, _+_, _-_, _*_, _^_, _≤_, _<_}
+use mathlib.Core.Path.{_≡_, refl}
+use Prim.Native.Nat.{ℕ, zero, suc, _+_, _-_, _*_, _^_, _≤_}
 use native.Mathlib.Omega.{arith}
-use mathlib.Core.Bool.{Bool, true, false, cond}
-use mathlib.Core.List.{List, [], _∷_, _++_}
+use mathlib.Core.Bool.{Bool, true, cond}
+use mathlib.Core.List.{List, [], _∷_}
 use lib.ListN.{length, length-append}
 use lib.IntN.{ℤ, pos, negsuc}
 use lib.Bits.{bitXor}
@@ -12,8 +12,8 @@ use Rattle.stream.specs.Bits.{odd, bitsOf, bytesFor}
 use Rattle.stream.proofs.Numbers.{length-bitsOf}
 use Rattle.layout.specs.declared.Row.{Row}
 use Rattle.layout.specs.Rows.{within, row7, longerRows, rows, fits, raw}
-use Rattle.layout.specs.Windows.{Window, digits, reuses, tight, reuseBits, openBits, xorBits, windowAfter}
-use Rattle.layout.specs.Writing.{Point, State, Progress, begun, going, dodOf, inRange, timeFault, inRow, rowBits, dodBits, startBits, marker, firstBits, laterBits, pointBits, firstState, laterState, stateAfter, restBits, opened, streamBits, Accepted}
+use Rattle.layout.specs.Windows.{Window, reuses, tight, reuseBits, openBits, xorBits, windowAfter}
+use Rattle.layout.specs.Writing.{Point, State, going, dodOf, inRange, timeFault, inRow, rowBits, dodBits, startBits, marker, firstBits, laterBits, pointBits, firstState, laterState, stateAfter, restBits, opened, streamBits, Accepted}
 use Rattle.layout.specs.Promises.{Every, Sizes}
 use Rattle.layout.proofs.Tests.{by-bool}
 use Rattle.layout.proofs.Times.{lastFits}

@@ -1,7 +1,6 @@
 -- A time that was written is read back.
-use mathlib.Core.Path.{_≡_, refl, sym, ap, _∙_}
+use mathlib.Core.Path.{_≡_, ap, _∙_}
 use Prim.Native.Nat.{ℕ, zero, suc, _+_, _-_, _^_, _≤_, _<_}
-use native.Mathlib.Nat.{add-assoc}
 use native.Mathlib.Omega.{arith}
 use mathlib.Core.Bool.{Bool, true, false, cond}
 use mathlib.Core.List.{List, [], _∷_, _++_, append-assoc}
@@ -12,9 +11,9 @@ use borrow.Author.Tests.{ne-eqb, le-ltb, ltb-true, ltb-false}
 use Rattle.stream.specs.Bits.{digit, bitsOf}
 use Rattle.stream.proofs.Numbers.{length-bitsOf}
 use Rattle.layout.specs.declared.Row.{Row}
-use Rattle.layout.specs.Rows.{row7, row32, longerRows, rows, fits, inField, raw, signed}
+use Rattle.layout.specs.Rows.{row7, longerRows, rows, fits, raw, signed}
 use Rattle.layout.specs.Writing.{inRange, inRow, rowBits, dodBits, marker}
-use Rattle.layout.specs.Reading.{done, ask, Outcome, got, Label, item, timeControl, timeField, Found, ending, Reader, readRow, readDod, newTime}
+use Rattle.layout.specs.Reading.{done, got, Label, item, timeField, Found, ending, Reader, readRow, readDod, newTime}
 use Rattle.layout.proofs.Tests.{by-bool}
 use Rattle.layout.proofs.Fields.{field-back, raw-some, in-row, Chain, table}
 use Rattle.layout.proofs.Runs.{runOn, run-field, run-bit}

@@ -3,17 +3,16 @@ use mathlib.Core.Path.{_≡_, refl, sym, ap, _∙_}
 use Prim.Native.Nat.{ℕ, zero, suc, _+_, _-_, _*_, _/_, _^_, _≤_, _<_}
 use native.Mathlib.Nat.{le-refl, zero-lt-suc}
 use native.Mathlib.Omega.{arith}
-use mathlib.Core.Bool.{Bool, true, false, cond}
-use mathlib.Core.List.{List, [], _∷_, _++_, append-assoc}
-use lib.Dec.{eqb, ltb}
+use mathlib.Core.Bool.{Bool, true, cond}
+use mathlib.Core.List.{List, _++_, append-assoc}
 use lib.Bits.{bitXor}
 use lib.Count.{leadingZeros, trailingZeros}
 use lib.ListN.{length, length-append}
 use borrow.Author.Tests.{le-ltb}
 use Rattle.stream.specs.Bits.{digit, bitsOf}
 use Rattle.stream.proofs.Numbers.{length-bitsOf}
-use Rattle.layout.specs.Windows.{Window, window, digits, reuses, tight, digitBits, reuseBits, openBits, xorBits, windowAfter}
-use Rattle.layout.specs.Reading.{ask, item, valueControl, windowZeros, valueDigits, Reader, readDigits, readOpened, readWindow, readXor, readValue}
+use Rattle.layout.specs.Windows.{Window, digits, reuses, tight, digitBits, reuseBits, openBits, xorBits, windowAfter}
+use Rattle.layout.specs.Reading.{ask, item, windowZeros, valueDigits, Reader, readDigits, readOpened, readWindow, readXor, readValue}
 use Rattle.layout.proofs.Tests.{by-bool}
 use Rattle.layout.proofs.Xors.{xor-twice, xor-eq, trailing-back, zeros-lt, reused, digits-fit}
 use Rattle.layout.proofs.Runs.{runOn, run-field, run-bit}

@@ -1,10 +1,10 @@
 -- The laws of windows, over the width.
-use mathlib.Core.Path.{_≡_, refl, sym, ap, ap₂, _∙_, subst}
+use mathlib.Core.Path.{_≡_, refl, sym, ap, ap₂, _∙_}
 use Prim.Native.Nat.{ℕ, zero, suc, _+_, _-_, _*_, _/_, _%_, _^_, _≤_, _<_}
 use native.Mathlib.Nat.{mod-lt, mod-one, suc-mul, lt-of-not-le, lt-irrefl, lt-of-lt-of-le, div-add-mod', le-of-suc-le-suc, not-suc-le-zero, le-refl}
 use native.Mathlib.Numerals.{add-one}
 use native.Mathlib.Omega.{arith}
-use mathlib.Core.Bool.{Bool, true, _&&_}
+use mathlib.Core.Bool.{true}
 use lib.Dec.{leb}
 use lib.Arith.{bin-ind}
 use lib.Pow.{pow-pos, pow-mono, shr-lt, split, mod-pow-add}

@@ -1,6 +1,6 @@
 -- What the decoder reads, field after field, each check as soon as its own bits are read: document 01, "The bit layout" and
 -- refusals 8 to 11. The parameter c gives the width of a value, 2 ^ c bits: 6 for 64 bits.
-use Prim.Native.Nat.{ℕ, zero, suc, _+_, _-_, _*_, _^_}
+use Prim.Native.Nat.{ℕ, _+_, _-_, _*_, _^_}
 use mathlib.Core.Bool.{Bool, cond}
 use mathlib.Core.List.{List, [], _∷_}
 use lib.Dec.{eqb, ltb}

@@ -1,7 +1,7 @@
 -- What the encoder writes, and which times it takes: document 01, "The bit layout", and refusals 2, 3 and 4.
 -- The parameter c gives the width of a value, 2 ^ c bits: 6 for 64 bits.
 use mathlib.Core.Path.{_≡_}
-use Prim.Native.Nat.{ℕ, zero, suc, _+_, _-_, _^_, _<_}
+use Prim.Native.Nat.{ℕ, zero, suc, _-_, _^_, _<_}
 use mathlib.Core.Bool.{Bool, true, false, cond}
 use mathlib.Core.List.{List, [], _∷_, _++_}
 use lib.Dec.{ltb}

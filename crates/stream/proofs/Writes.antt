@@ -1,5 +1,5 @@
 -- Laws of fields: what is taken out of a part of the bits, and what a write leaves.
-use mathlib.Core.Path.{_≡_, refl, sym, ap, ap₂, _∙_}
+use mathlib.Core.Path.{_≡_, refl, sym, ap, _∙_}
 use mathlib.Core.Bool.{Bool, false}
 use mathlib.Core.List.{List, [], _∷_, _++_, append-assoc, append-nil}
 use Prim.Native.Nat.{ℕ, zero, suc, _+_, _-_, _*_, _≤_, _<_}
@@ -8,7 +8,7 @@ use native.Mathlib.Omega.{arith}
 use lib.ListN.{length, take, drop, replicate, length-append, length-replicate, length-drop}
 use lib.Seq.{take-at, drop-at, take-take, take-append-seam, length-take-le, drop-append-add, drop-drop}
 use Rattle.stream.specs.Bits.{edge, spare, field, laid, replaced}
-use Rattle.stream.specs.Promises.{WriteLeaves, WritesLeave}
+use Rattle.stream.specs.Promises.{WritesLeave}
 
 -- ---- fields
 
