@@ -135,6 +135,6 @@ module _ (c : ℕ) where
   more-data = record {
     bits-form = more-bits;
     bytes-form = λ n k l. ap (answers c n) (bits-take k l) ∙ more-bits n (8 * k) (bits l);
-    none-torn = λ n j s h. more-bits n j s ∙ torn-none j (outcomes c n s) h;
+    none-torn = λ f k n j s h. k n j s ∙ torn-none j (outcomes c n s) h;
     determines = λ f k n s. ap (f n) (sym (take-length s)) ∙ k n (length s) s ∙ sym (more-bits n (length s) s) ∙ ap (answers c n) (take-length s);
   }

@@ -82,8 +82,9 @@ module _ (c : ℕ) where
     pub bits-form : KeepsPrefix (answers c)
     -- the first k bytes of any buffer, so of one within the limit
     pub bytes-form : (n k : ℕ) (l : List ℕ) → answers c n (bits (take k l)) ≡ torn (8 * k) (outcomes c n (bits l))
-    -- where no outcome used a bit at or behind j, all answers are equal
-    pub none-torn : (n j : ℕ) (s : List Bool) → Every (λ (o : Reached). position o ≤ j) (outcomes c n s) → answers c n (take j s) ≡ answers c n s
+    -- where no outcome used a bit at or behind j, whoever keeps it answers as on the whole: no 7 for a 9 whose bits are there
+    pub none-torn : (f : ℕ → List Bool → List Answer) → KeepsPrefix f → (n j : ℕ) (s : List Bool)
+        → Every (λ (o : Reached). position o ≤ j) (outcomes c n s) → f n (take j s) ≡ answers c n s
     -- it leaves no choice: whoever keeps it is this decoder
     pub determines : (f : ℕ → List Bool → List Answer) → KeepsPrefix f → (n : ℕ) (s : List Bool) → f n s ≡ answers c n s
 
