@@ -1,6 +1,6 @@
 -- A closed stream that is cut.
 use mathlib.Core.Path.{_≡_, refl, sym, ap, _∙_, subst}
-use Prim.Native.Nat.{ℕ, zero, suc, _+_, _*_, _^_, _≤_, _<_}
+use Prim.Native.Nat.{ℕ, zero, suc, _+_, _*_, _^_, _<_}
 use native.Mathlib.Nat.{lt-of-not-le, le-of-suc-le-suc}
 use native.Mathlib.Decide.{decLe}
 use native.Mathlib.Omega.{arith}
@@ -9,14 +9,14 @@ use mathlib.Core.List.{List, [], _∷_, append-nil, map}
 use lib.Dec.{ltb}
 use lib.ListN.{length, take, replicate, getD, length-append, getD-replicate, length-replicate, length-map}
 use lib.Seq.{take-append-le}
-use borrow.Author.Tests.{le-leb, lt-leb, le-ltb, lt-ltb}
+use borrow.Author.Tests.{le-ltb, lt-ltb}
 use Rattle.stream.specs.Bits.{bits, edge, spare, padded}
 use Rattle.stream.proofs.Numbers.{length-bitsOf}
 use Rattle.stream.proofs.Bytes.{length-bits, bits-take}
 use Rattle.layout.specs.Writing.{Point, Progress, going, startBits, marker, pointBits, stateAfter, restBits, opened, streamBits, Accepted}
-use Rattle.layout.specs.Answers.{Reached, pointAt, endAt, wrongAt, position, Answer, aPoint, anEnd, refusal, answerOf, outcomes, answers, lack, torn}
+use Rattle.layout.specs.Answers.{Reached, pointAt, endAt, wrongAt, position, Answer, aPoint, anEnd, refusal, answerOf, outcomes, answers, lack, tornBy, torn}
 use Rattle.layout.specs.Promises.{placeOf, cutTo, back, ClosedCuts}
-use Rattle.layout.proofs.Prefix.{more-data}
+use Rattle.layout.proofs.Prefix.{torn-in, torn-out, more-data}
 use Rattle.layout.proofs.Round.{points-come-back}
 
 -- ---- where the whole has no refusal, what is torn is told by its answers
@@ -28,20 +28,11 @@ Plain (anEnd q ∷ l) = Plain l
 Plain (refusal k ∷ l) = ⊥
 
 torn-plain : (j : ℕ) (os : List Reached) → Plain (map answerOf os) → torn j os ≡ cutTo j (map answerOf os)
-unfolding torn cutTo answerOf position placeOf
+unfolding tornBy answerOf position placeOf
 torn-plain j [] h = refl
 torn-plain j (pointAt s q ∷ os) h = rw (torn-plain j os h, length-map os answerOf)
 torn-plain j (endAt q ∷ os) h = rw (torn-plain j os h, length-map os answerOf)
 torn-plain j (wrongAt k q ∷ os) h = absurd h
-
-module _ (j : ℕ) (a : Answer) (l : List Answer) where
-  cut-in : placeOf a ≤ j → cutTo j (a ∷ l) ≡ a ∷ cutTo j l
-  unfolding cutTo
-  cut-in h = rw (le-leb _ _ h)
-
-  cut-out : j < placeOf a → cutTo j (a ∷ l) ≡ replicate (suc (length l)) (refusal (lack j))
-  unfolding cutTo
-  cut-out h = rw (lt-leb _ _ h)
 
 -- ---- the answers on a closed stream
 
@@ -67,17 +58,17 @@ module _ (c : ℕ) where
       → getD (cutTo j (back c n at g ps)) (length ps) (anEnd 0) ≡ refusal (lack j)
   unfolding back restBits marker placeOf
   end-cut zero at j g ps h k = absurd (omega arith)
-  end-cut (suc n) at j g [] h k = rw (cut-out j (anEnd (at + 36)) (replicate n (anEnd (at + 36))) (omega (arith, length-bitsOf 32 0)))
+  end-cut (suc n) at j g [] h k = rw (torn-out placeOf (λ a. a) j (anEnd (at + 36)) (replicate n (anEnd (at + 36))) (omega (arith, length-bitsOf 32 0)))
   end-cut (suc n) at j g (p ∷ ps) h k =
       let q = at + length (pointBits c g p) in
       let g′ = going (stateAfter c g p) in
       let a = aPoint (p .time) (p .value) q in
       elim (decLe q j) [
         | yes i ↦
-            rw (cut-in j a (back c n q g′ ps) i)
+            rw (torn-in placeOf (λ a. a) j a (back c n q g′ ps) i)
             (end-cut n q j g′ ps (le-of-suc-le-suc h) (omega (arith, length-append (pointBits c g p) (restBits c g′ ps))))
         | no i ↦
-            rw (cut-out j a (back c n q g′ ps) (lt-of-not-le i), length-back n q g′ ps)
+            rw (torn-out placeOf (λ a. a) j a (back c n q g′ ps) (lt-of-not-le i), length-back n q g′ ps)
             (getD-replicate n (length ps) (refusal (lack j)) (anEnd 0) (le-of-suc-le-suc h))
       ]
 

@@ -14,7 +14,7 @@ use Rattle.stream.proofs.Bytes.{bits-take}
 use Rattle.layout.specs.Windows.{decoderWindow}
 use Rattle.layout.specs.Writing.{begun, going}
 use Rattle.layout.specs.Reading.{Outcome, got, cut, reach, run, readStart, Label, Found, point, ending, wrong, readNext}
-use Rattle.layout.specs.Answers.{Reached, pointAt, endAt, wrongAt, position, reached, Answer, refusal, answerOf, step, afterStart, firstStep, nextStep, outcomesAfter, outcomes, answers, lack, torn}
+use Rattle.layout.specs.Answers.{Reached, pointAt, endAt, wrongAt, position, reached, Answer, refusal, answerOf, step, afterStart, firstStep, nextStep, outcomesAfter, outcomes, answers, lack, tornBy, torn}
 use Rattle.layout.specs.Promises.{Every, KeepsPrefix, MoreData}
 use Rattle.layout.proofs.Runs.{Upto, same, late, run-take, reach-from}
 
@@ -27,20 +27,20 @@ position-reached (cut l p n) = refl
 
 -- ---- what is torn
 
-module _ (j : ℕ) (o : Reached) (os : List Reached) where
+module _ {A : Type 0} (place : A → ℕ) (told : A → Answer) (j : ℕ) where
   -- an answer that lies in the first j bits stays; one that does not is torn
-  torn-in : position o ≤ j → torn j (o ∷ os) ≡ answerOf o ∷ torn j os
-  unfolding torn
-  torn-in h = rw (le-leb _ _ h)
+  pub torn-in : (o : A) (os : List A) → place o ≤ j → tornBy place told j (o ∷ os) ≡ told o ∷ tornBy place told j os
+  unfolding tornBy
+  torn-in o os h = rw (le-leb _ _ h)
 
-  torn-out : j < position o → torn j (o ∷ os) ≡ replicate (suc (length os)) (refusal (lack j))
-  unfolding torn
-  torn-out h = rw (lt-leb _ _ h)
+  pub torn-out : (o : A) (os : List A) → j < place o → tornBy place told j (o ∷ os) ≡ replicate (suc (length os)) (refusal (lack j))
+  unfolding tornBy
+  torn-out o os h = rw (lt-leb _ _ h)
 
 torn-none : (j : ℕ) (os : List Reached) → Every (λ (o : Reached). position o ≤ j) os → torn j os ≡ map answerOf os
-unfolding torn
+unfolding tornBy
 torn-none j [] h = refl
-torn-none j (o ∷ os) h = torn-in j o os (h .0) ∙ ap (λ (l : List Answer). answerOf o ∷ l) (torn-none j os (h .1))
+torn-none j (o ∷ os) h = torn-in position answerOf j o os (h .0) ∙ ap (λ (l : List Answer). answerOf o ∷ l) (torn-none j os (h .1))
 
 lack-short : (j : ℕ) → j < 64 → lack j ≡ 6
 unfolding lack
@@ -70,13 +70,13 @@ module _ (c : ℕ) where
   torn-now : (n j k q : ℕ) (s : List Bool) (o : Reached) → lack j ≡ k → j < position o → Follows n j s o (wrongAt k q)
   unfolding answerOf
   torn-now n j k q s o e h =
-      rw (torn-out j o (outcomesAfter c n o s) h, length-after n o s, e) (ap (λ (l : List Answer). refusal k ∷ l) (wrong-repeats n k q (take j s)))
+      rw (torn-out position answerOf j o (outcomesAfter c n o s) h, length-after n o s, e) (ap (λ (l : List Answer). refusal k ∷ l) (wrong-repeats n k q (take j s)))
 
   -- both came to the same, which lies in the first j bits
   torn-on : (n j : ℕ) (s : List Bool) (o : Reached) → position o ≤ j
       → map answerOf (outcomesAfter c n o (take j s)) ≡ torn j (outcomesAfter c n o s) → Follows n j s o o
   torn-on n j s o h go =
-      rw (torn-in j o (outcomesAfter c n o s) h) (ap (λ (l : List Answer). answerOf o ∷ l) go)
+      rw (torn-in position answerOf j o (outcomesAfter c n o s) h) (ap (λ (l : List Answer). answerOf o ∷ l) go)
 
   -- a step on the whole, which came to w, and on the part, which came to w′
   torn-step : (n j : ℕ) (s : List Bool) (w w′ : Outcome Label Found) → 64 ≤ j → Upto j w w′
@@ -91,7 +91,7 @@ module _ (c : ℕ) where
 
   torn-after : (n j : ℕ) (s : List Bool) → 64 ≤ j → (o : Reached) → position o ≤ j
       → map answerOf (outcomesAfter c n o (take j s)) ≡ torn j (outcomesAfter c n o s)
-  unfolding outcomesAfter torn nextStep step position
+  unfolding outcomesAfter tornBy nextStep step position
   torn-after zero j s b o h = refl
   torn-after (suc n) j s b (endAt q) h = torn-on n j s (endAt q) h (torn-after n j s b (endAt q) h)
   torn-after (suc n) j s b (wrongAt k q) h = torn-on n j s (wrongAt k q) h (torn-after n j s b (wrongAt k q) h)
@@ -126,7 +126,7 @@ module _ (c : ℕ) where
       torn-now n j 6 (p + m) s (afterStart c decoderWindow w s) (lack-short j (omega arith)) (start-late j s w h)
 
   more-bits : KeepsPrefix c (answers c)
-  unfolding answers outcomes torn firstStep
+  unfolding answers outcomes tornBy firstStep
   more-bits zero j s = refl
   more-bits (suc n) j s = torn-start n j s (run readStart 0 s) (run readStart 0 (take j s)) (reach-start s) (run-take readStart 0 j s (omega arith))
 

@@ -82,8 +82,11 @@ module _ (c : ℕ) where
 unfoldable pub lack : ℕ → ℕ
 lack j = cond (ltb j 64) 6 7
 
--- from the outcomes on a whole, the answers on its first j bits:
--- the same as long as their last bit lies in the j; from the first whose does not, 6 or 7 for ever
-unfoldable pub torn : ℕ → List Reached → List Answer
-torn j [] = []
-torn j (o ∷ os) = cond (leb (position o) j) (answerOf o ∷ torn j os) (replicate (suc (length os)) (refusal (lack j)))
+-- from what the steps on a whole came to, each with its place and its answer, the answers on its first j bits:
+-- the same as long as their place lies in the j; from the first whose does not, 6 or 7 for ever
+unfoldable pub tornBy : {A : Type 0} → (A → ℕ) → (A → Answer) → ℕ → List A → List Answer
+tornBy place told j [] = []
+tornBy place told j (o ∷ os) = cond (leb (place o) j) (told o ∷ tornBy place told j os) (replicate (suc (length os)) (refusal (lack j)))
+
+abbrev pub torn : ℕ → List Reached → List Answer
+torn j os = tornBy position answerOf j os

@@ -4,7 +4,7 @@ use mathlib.Core.Path.{_≡_}
 use Prim.Native.Nat.{ℕ, zero, suc, _+_, _-_, _*_, _/_, _^_, _≤_, _<_}
 use mathlib.Core.Bool.{Bool, true, cond}
 use mathlib.Core.List.{List, [], _∷_, _++_}
-use lib.Dec.{leb, ltb}
+use lib.Dec.{ltb}
 use lib.IntN.{ℤ}
 use lib.Bits.{bitXor}
 use lib.Count.{leadingZeros, trailingZeros}
@@ -14,7 +14,7 @@ use Rattle.layout.specs.declared.Row.{Row}
 use Rattle.layout.specs.Rows.{rows, fits, inField, raw, signed}
 use Rattle.layout.specs.Windows.{Window, digits, reuses}
 use Rattle.layout.specs.Writing.{Point, pointOf, Progress, going, pointBits, stateAfter, opened, streamBits, Accepted}
-use Rattle.layout.specs.Answers.{Reached, position, Answer, aPoint, anEnd, refusal, outcomes, answers, lack, torn}
+use Rattle.layout.specs.Answers.{Reached, position, Answer, aPoint, anEnd, refusal, outcomes, answers, lack, tornBy, torn}
 
 -- ---- `field-back`: a dod's field, once over its width
 
@@ -41,9 +41,8 @@ placeOf (aPoint t v q) = q
 placeOf (anEnd q) = q
 placeOf (refusal k) = 0
 
-unfoldable pub cutTo : ℕ → List Answer → List Answer
-cutTo j [] = []
-cutTo j (a ∷ rest) = cond (leb (placeOf a) j) (a ∷ cutTo j rest) (replicate (suc (length rest)) (refusal (lack j)))
+abbrev pub cutTo : ℕ → List Answer → List Answer
+cutTo j l = tornBy placeOf (λ a. a) j l
 
 module _ (c : ℕ) where
   -- ---- `windows`: the laws of windows, over the width
