@@ -67,6 +67,10 @@ pub record Spans (r : Row) : Type 0 where
 pub in-row : (r : Row) (d : ℤ) → Spans r → fits r d ≡ true → inField (r .width) d ≡ true
 in-row r d s e = rw (s .lo, s .hi) at e
 
+-- so what it takes comes back
+pub span-back : (r : Row) (d : ℤ) → Spans r → fits r d ≡ true → FieldBack (r .width) d
+span-back r d s e = field-back (r .width) d (s .some) (in-row r d s e)
+
 -- the control bits: behind those that are shared, `pre`, a row has 0 and the rows after it 1; the last has no more
 abbrev pub Chain : List Bool → Row → List Row → Type 0
 Chain pre r [] = Spans r × (bitsOf (r .«prefix_len») (r .prefix) ≡ pre)
@@ -80,8 +84,8 @@ table = (spans _ (lit≤ tt) refl refl, refl, (spans _ (lit≤ tt) refl refl, re
     spans r some lo hi = record { some = some; lo = lo; hi = hi }
 
 chain-back : (pre : List Bool) (r : Row) (rs : List Row) → Chain pre r rs → Every (λ (r : Row). (d : ℤ) → fits r d ≡ true → FieldBack (r .width) d) (r ∷ rs)
-chain-back pre r [] t = (λ d e. field-back (r .width) d (t .0 .some) (in-row r d (t .0) e), tt)
-chain-back pre r (r′ ∷ rs) t = (λ d e. field-back (r .width) d (t .0 .some) (in-row r d (t .0) e), chain-back (pre ++ (true ∷ [])) r′ rs (t .2))
+chain-back pre r [] t = (λ d e. span-back r d (t .0) e, tt)
+chain-back pre r (r′ ∷ rs) t = (λ d e. span-back r d (t .0) e, chain-back (pre ++ (true ∷ [])) r′ rs (t .2))
 
 pub rows-back : RowsBack
 rows-back = chain-back (true ∷ []) row7 longerRows table

@@ -56,11 +56,11 @@ module _ (c : ℕ) where
   length-after zero o s = refl
   length-after (suc n) o s = ap suc (length-after n (nextStep c o s) s)
 
-  -- a refusal is repeated
-  wrong-repeats : (n k q : ℕ) (s : List Bool) → map answerOf (outcomesAfter c n (wrongAt k q) s) ≡ replicate n (refusal k)
-  unfolding outcomesAfter nextStep answerOf
-  wrong-repeats zero k q s = refl
-  wrong-repeats (suc n) k q s = ap (λ (l : List Answer). refusal k ∷ l) (wrong-repeats n k q s)
+  -- an outcome that is its own next one is repeated
+  pub repeats : (n : ℕ) (o : Reached) (s : List Bool) → nextStep c o s ≡ o → map answerOf (outcomesAfter c n o s) ≡ replicate n (answerOf o)
+  unfolding outcomesAfter
+  repeats zero o s e = refl
+  repeats (suc n) o s e = rw e (ap (λ (l : List Answer). answerOf o ∷ l) (repeats n o s e))
 
   -- from here on: the outcome o, on the part its own answer or, where o goes beyond j, what is lacking
   abbrev Follows : ℕ → ℕ → List Bool → Reached → Reached → Type 0
@@ -68,9 +68,9 @@ module _ (c : ℕ) where
 
   -- the part is refused with k, where the whole goes beyond j
   torn-now : (n j k q : ℕ) (s : List Bool) (o : Reached) → lack j ≡ k → j < position o → Follows n j s o (wrongAt k q)
-  unfolding answerOf
+  unfolding answerOf nextStep
   torn-now n j k q s o e h =
-      rw (torn-out position answerOf j o (outcomesAfter c n o s) h, length-after n o s, e) (ap (λ (l : List Answer). refusal k ∷ l) (wrong-repeats n k q (take j s)))
+      rw (torn-out position answerOf j o (outcomesAfter c n o s) h, length-after n o s, e) (ap (λ (l : List Answer). refusal k ∷ l) (repeats n (wrongAt k q) (take j s) refl))
 
   -- both came to the same, which lies in the first j bits
   torn-on : (n j : ℕ) (s : List Bool) (o : Reached) → position o ≤ j

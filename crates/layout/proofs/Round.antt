@@ -20,6 +20,7 @@ use Rattle.layout.specs.Promises.{back, PointsComeBack}
 use Rattle.layout.proofs.Tests.{unmet, met}
 use Rattle.layout.proofs.Times.{dod-back, delta-back, time-back, done-at, end-dod}
 use Rattle.layout.proofs.Values.{Agree, windowRead, agree-after, value-back}
+use Rattle.layout.proofs.Prefix.{repeats}
 use Rattle.layout.proofs.Runs.{runOn, run-on, run-field, run-bit}
 
 -- ---- what no refusal means
@@ -65,20 +66,15 @@ module _ (c : ℕ) where
   agree-then (begun start w) w′ p a = a
   agree-then (going s) w′ p a = agree-after c (s .window) w′ (bitXor (p .value) (s .value)) a
 
-  after-time : (g : Progress) (p : Point) → stateAfter c g p .time ≡ p .time
+  after-is : (g : Progress) (p : Point) → (stateAfter c g p .time ≡ p .time) × (stateAfter c g p .value ≡ p .value)
   unfolding stateAfter firstState laterState
-  after-time (begun start w) p = refl
-  after-time (going s) p = refl
-
-  after-value : (g : Progress) (p : Point) → stateAfter c g p .value ≡ p .value
-  unfolding stateAfter firstState laterState
-  after-value (begun start w) p = refl
-  after-value (going s) p = refl
+  after-is (begun start w) p = (refl, refl)
+  after-is (going s) p = (refl, refl)
 
   -- ---- one point
 
   first-back : (start : ℕ) (w w′ : Window) (at : ℕ) (p : Point) (rest : List Bool) → Fitting c p → timeFault (begun start w) (p .time) ≡ 0
-      → runOn (readFirst c start w′) at (firstBits c start p ++ rest) ≡ got (point (withWindow (firstState c start w p) w′)) (at + length (firstBits c start p))
+      → runOn (readFirst c start w′) at (firstBits c start p ++ rest) ≡ got (point (withWindow (firstState start w p) w′)) (at + length (firstBits c start p))
   unfolding readFirst firstTime firstBits firstState digit
   first-back start w w′ at p rest fit ok =
       let t = first-taken start (p .time) w ok in
@@ -130,11 +126,6 @@ module _ (c : ℕ) where
   rest-long g [] = omega (arith, length-bitsOf 32 0)
   rest-long g (p ∷ ps) = omega (arith, length-append (pointBits c g p) (restBits c (going (stateAfter c g p)) ps), rest-long (going (stateAfter c g p)) ps)
 
-  end-repeats : (n q : ℕ) (s : List Bool) → map answerOf (outcomesAfter c n (endAt q) s) ≡ replicate n (anEnd q)
-  unfolding outcomesAfter nextStep answerOf
-  end-repeats zero q s = refl
-  end-repeats (suc n) q s = ap (λ (l : List Answer). anEnd q ∷ l) (end-repeats n q s)
-
   module _ (all junk : List Bool) where
     -- a step on bits that go on with the points ps
     step-on : (g g′ : Progress) (at : ℕ) (ps : List Point) → drop at all ≡ restBits c g ps ++ junk
@@ -168,13 +159,13 @@ module _ (c : ℕ) where
         → map answerOf (step c (seenAs g w′) at all ∷ outcomesAfter c n (step c (seenAs g w′) at all) all) ≡ back c (suc n) at g ps
     unfolding outcomesAfter nextStep reached answerOf back restBits
     steps-back n g w′ at [] e known a ok =
-        rw (step-on g (seenAs g w′) at [] e, end-back (seenAs g w′) at junk) (ap (λ (l : List Answer). anEnd (at + 36) ∷ l) (end-repeats n (at + 36) all))
+        rw (step-on g (seenAs g w′) at [] e, end-back (seenAs g w′) at junk) (ap (λ (l : List Answer). anEnd (at + 36) ∷ l) (repeats c n (endAt (at + 36)) all refl))
     steps-back zero g w′ at (p ∷ ps) e known a ok =
-        rw (step-point g w′ at p ps e known a (ok .0) (ok .1), after-time g p, after-value g p)
+        rw (step-point g w′ at p ps e known a (ok .0) (ok .1), after-is g p .0, after-is g p .1)
     steps-back (suc n) g w′ at (p ∷ ps) e known a ok =
         let q = at + length (pointBits c g p) in
-        let next = steps-back n (going (stateAfter c g p)) (windowThen g w′ p) q ps (drop-point g at p ps e) (rw (after-value g p) (ok .0 .value-fits)) (agree-then g w′ p a) (ok .2) in
-        rw (step-point g w′ at p ps e known a (ok .0) (ok .1), next, after-time g p, after-value g p)
+        let next = steps-back n (going (stateAfter c g p)) (windowThen g w′ p) q ps (drop-point g at p ps e) (rw (after-is g p .1) (ok .0 .value-fits)) (agree-then g w′ p a) (ok .2) in
+        rw (step-point g w′ at p ps e known a (ok .0) (ok .1), next, after-is g p .0, after-is g p .1)
 
   -- ---- from the start
 

@@ -1,5 +1,5 @@
 -- Laws of readers: on the first j bits; and field by field on the bits that are left.
-use mathlib.Core.Path.{_≡_, refl}
+use mathlib.Core.Path.{_≡_, refl, ap}
 use Prim.Native.Nat.{ℕ, _+_, _^_, _≤_, _<_}
 use native.Mathlib.Nat.{mod-eq-of-lt, lt-of-not-le}
 use native.Mathlib.Decide.{decLe}
@@ -82,6 +82,13 @@ run-on (ask l n f) p s b = elim (decLe (p + n) (length s)) [
       (run-on (f (valueOf (field s p n))) (p + n) s h)
   | no h ↦ rw (run-cut l n f p s (lt-of-not-le h), lt-ltb (length (drop p s)) n (rw length-drop (omega (arith, lt-of-not-le h))))
 ]
+
+-- the bits l, before rest, lead from the reader r at p to the reader r′ behind them
+abbrev pub Leads : {L A : Type 0} → List Bool → Read L A → Read L A → ℕ → List Bool → Type 0
+Leads rest r r′ p l = runOn r p (l ++ rest) ≡ runOn r′ (p + length l) rest
+
+pub moved : {L A : Type 0} (r : Read L A) (rest : List Bool) (q q′ : ℕ) → q ≡ q′ → runOn r q rest ≡ runOn r q′ rest
+moved r rest q q′ e = ap (λ (z : ℕ). runOn r z rest) e
 
 -- a field that was written
 pub run-field : {L A : Type 0} (l : L) (n : ℕ) (f : ℕ → Read L A) (p x : ℕ) (rest : List Bool) → x < 2 ^ n

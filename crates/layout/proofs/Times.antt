@@ -15,8 +15,8 @@ use Rattle.layout.specs.Rows.{row7, longerRows, rows, fits, raw, signed}
 use Rattle.layout.specs.Writing.{inRange, inRow, rowBits, dodBits, marker}
 use Rattle.layout.specs.Reading.{done, got, Label, item, timeField, Found, ending, Reader, readRow, readDod, newTime}
 use Rattle.layout.proofs.Tests.{by-bool}
-use Rattle.layout.proofs.Fields.{field-back, raw-some, in-row, Chain, table}
-use Rattle.layout.proofs.Runs.{runOn, run-field, run-bit}
+use Rattle.layout.proofs.Fields.{raw-some, in-row, span-back, Chain, table}
+use Rattle.layout.proofs.Runs.{runOn, Leads, moved, run-field, run-bit}
 
 -- ---- the bits of a dod behind the control bits that the rows share
 
@@ -40,33 +40,30 @@ row-tail pre r (r′ ∷ rs) d t h =
 -- ---- and what is read there
 
 module _ (f : ℤ → Reader) (d : ℤ) (rest : List Bool) where
-  moved : (q q′ : ℕ) → q ≡ q′ → runOn (f d) q rest ≡ runOn (f d) q′ rest
-  moved q q′ e = ap (λ (z : ℕ). runOn (f d) z rest) e
-
-  -- the bits l, before rest, are read by r as the dod d
+  -- the bits l are read by r as the dod d
   abbrev Gives : Reader → ℕ → List Bool → Type 0
-  Gives r p l = runOn r p (l ++ rest) ≡ runOn (f d) (p + length l) rest
+  Gives r p l = Leads rest r (f d) p l
 
   tail-back : (pre : List Bool) (r : Row) (rs : List Row) (p : ℕ) → Chain pre r rs → lastFits r rs d ≡ true → ¬ (d ≡ pos 0)
       → Gives (readRow r rs f) p (tailBits r rs d)
   unfolding readRow tailBits digit
   tail-back pre r [] p t h z =
       let e = in-row r d (t .0) h in
-      let b = field-back (r .width) d (t .0 .some) e in
+      let b = span-back r d (t .0) h in
       run-field (item timeField 0) (r .width) (λ x. cond (eqb x 0) (done ending) (f (signed (r .width) x))) p (raw (r .width) d) rest (b .whole)
       ∙ rw (ne-eqb (raw (r .width) d) 0 (λ k. let y : ⊥ = omega (arith, raw-some (r .width) d (t .0 .some) e z) in y), b .back)
-      (moved _ _ (omega (arith, length-bitsOf (r .width) (raw (r .width) d))))
+      (moved (f d) rest _ _ (omega (arith, length-bitsOf (r .width) (raw (r .width) d))))
   tail-back pre r (r′ ∷ rs) p t h z =
       by-bool (λ (b : Bool). Gives (readRow r (r′ ∷ rs) f) p (cond b (false ∷ bitsOf (r .width) (raw (r .width) d)) (true ∷ tailBits r′ rs d))) (fits r d)
       (λ e.
-      let b = field-back (r .width) d (t .0 .some) (in-row r d (t .0) e) in
+      let b = span-back r d (t .0) e in
       run-bit _ _ p false (bitsOf (r .width) (raw (r .width) d) ++ rest)
       ∙ run-field (item timeField 0) (r .width) (λ x. f (signed (r .width) x)) (p + 1) (raw (r .width) d) rest (b .whole)
-      ∙ rw (b .back) (moved _ _ (omega (arith, length-bitsOf (r .width) (raw (r .width) d)))))
+      ∙ rw (b .back) (moved (f d) rest _ _ (omega (arith, length-bitsOf (r .width) (raw (r .width) d)))))
       (λ e.
       run-bit _ _ p true (tailBits r′ rs d ++ rest)
       ∙ tail-back (pre ++ (true ∷ [])) r′ rs (p + 1) (t .2) h z
-      ∙ moved _ _ (omega arith))
+      ∙ moved (f d) rest _ _ (omega arith))
 
   row-back : (p : ℕ) → inRange d ≡ true → ¬ (d ≡ pos 0) → Gives (readDod f) p (rowBits rows d)
   unfolding readDod digit
@@ -74,7 +71,7 @@ module _ (f : ℤ → Reader) (d : ℤ) (rest : List Bool) where
       rw (row-tail (true ∷ []) row7 longerRows d table h)
       (run-bit _ _ p true (tailBits row7 longerRows d ++ rest)
       ∙ tail-back (true ∷ []) row7 longerRows (p + 1) table h z
-      ∙ moved _ _ (omega arith))
+      ∙ moved (f d) rest _ _ (omega arith))
 
 pub dod-back : (f : ℤ → Reader) (d : ℤ) (rest : List Bool) (p : ℕ) → inRange d ≡ true → Gives f d rest (readDod f) p (dodBits d)
 unfolding dodBits readDod digit

@@ -15,7 +15,7 @@ use Rattle.layout.specs.Windows.{Window, digits, reuses, tight, digitBit
 use Rattle.layout.specs.Reading.{ask, item, windowZeros, valueDigits, Reader, readDigits, readOpened, readWindow, readXor, readValue}
 use Rattle.layout.proofs.Tests.{by-bool}
 use Rattle.layout.proofs.Xors.{xor-twice, xor-eq, trailing-back, zeros-lt, reused, digits-fit}
-use Rattle.layout.proofs.Runs.{runOn, run-field, run-bit}
+use Rattle.layout.proofs.Runs.{runOn, Leads, moved, run-field, run-bit}
 
 module _ (c : ℕ) where
   -- The decoder's window need not be the encoder's before the first opening: where the encoder's w is the last one opened, it is the
@@ -35,12 +35,9 @@ module _ (c : ℕ) where
 
   -- u is the new value, v the previous one, x their xor
   module _ (u v x : ℕ) (e : bitXor u v ≡ x) (b : x < 2 ^ (2 ^ c)) (f : Window → ℕ → Reader) (rest : List Bool) where
-    -- the bits l, before rest, are read by r as the value u, with the window w behind it
+    -- the bits l are read by r as the value u, with the window w behind it
     abbrev Gives : Window → Reader → ℕ → List Bool → Type 0
-    Gives w r p l = runOn r p (l ++ rest) ≡ runOn (f w u) (p + length l) rest
-
-    moved : (w : Window) (q q′ : ℕ) → q ≡ q′ → runOn (f w u) q rest ≡ runOn (f w u) q′ rest
-    moved w q q′ k = ap (λ (z : ℕ). runOn (f w u) z rest) k
+    Gives w r p l = Leads rest r (f w u) p l
 
     -- the digits of a window that holds the xor
     digits-back : (w : Window) (p : ℕ) → w .lead ≤ leadingZeros (2 ^ c) x → w .trail ≤ trailingZeros (2 ^ c) x
@@ -50,12 +47,12 @@ module _ (c : ℕ) where
         let t = w .trail in
         run-field (item valueDigits 0) (digits c w) (λ z. f w (bitXor (z * 2 ^ t) v)) p (x / 2 ^ t) rest (digits-fit c w x b hl)
         ∙ ap (λ (z : ℕ). runOn (f w z) (p + digits c w) rest) (ap (λ (z : ℕ). bitXor z v) (trailing-back (2 ^ c) t x ht ∙ sym e) ∙ xor-twice u v)
-        ∙ moved w _ _ (omega (arith, length-bitsOf (digits c w) (x / 2 ^ t)))
+        ∙ moved (f w u) rest _ _ (omega (arith, length-bitsOf (digits c w) (x / 2 ^ t)))
 
     reuse-back : (w : Window) (p : ℕ) → reuses c w x ≡ true → Gives w (readValue c v w f) p (reuseBits c w x)
     unfolding readValue readXor reuseBits digit
     reuse-back w p t =
-        rw (run-bit, run-bit) (digits-back w (p + 1 + 1) (reused c w x t .0) (reused c w x t .1) ∙ moved w _ _ (omega arith))
+        rw (run-bit, run-bit) (digits-back w (p + 1 + 1) (reused c w x t .0) (reused c w x t .1) ∙ moved (f w u) rest _ _ (omega arith))
 
     -- the fields of a tight window give it back
     opened-back : 0 < x → readOpened c v f (leadingZeros (2 ^ c) x) (digits c (tight c x) - 1 + 1) ≡ readDigits c v (tight c x) f
@@ -80,7 +77,7 @@ module _ (c : ℕ) where
         ∙ run-field (item windowZeros c) c (λ j. readOpened c v f l (j + 1)) (p + 1 + 1 + c) k (ds ++ rest) (omega arith)
         ∙ ap (λ (r : Reader). runOn r (p + 1 + 1 + c + c) (ds ++ rest)) (opened-back h)
         ∙ digits-back (tight c x) (p + 1 + 1 + c + c) (le-refl _) (le-refl _)
-        ∙ moved (tight c x) _ _ (simp (length-append, length-bitsOf) (omega arith)))
+        ∙ moved (f (tight c x) u) rest _ _ (simp (length-append, length-bitsOf) (omega arith)))
 
   pub value-back : (u v x : ℕ) → bitXor u v ≡ x → x < 2 ^ (2 ^ c) → (f : Window → ℕ → Reader) (rest : List Bool) (w w′ : Window) (p : ℕ) → Agree w w′
       → runOn (readValue c v w′ f) p (xorBits c w x ++ rest) ≡ runOn (f (windowRead w w′ x) u) (p + length (xorBits c w x)) rest

@@ -76,6 +76,10 @@ startBits start = bitsOf 64 start
 unfoldable pub marker : List Bool
 marker = true ∷ true ∷ true ∷ true ∷ bitsOf 32 0
 
+-- the first point leaves the window as it is
+unfoldable pub firstState : ℕ → Window → Point → State
+firstState start w p = state (p .time) (p .time - start) (p .value) w
+
 module _ (c : ℕ) where
   -- a 0 bit, 14 bits of the first delta, the value's bits
   unfoldable pub firstBits : ℕ → Point → List Bool
@@ -87,9 +91,6 @@ module _ (c : ℕ) where
   unfoldable pub pointBits : Progress → Point → List Bool
   pointBits (begun start w) p = firstBits start p
   pointBits (going s) p = laterBits s p
-
-  unfoldable pub firstState : ℕ → Window → Point → State
-  firstState start w p = state (p .time) (p .time - start) (p .value) w
 
   unfoldable pub laterState : State → Point → State
   laterState s p = state (p .time) (p .time - s .time) (p .value) (windowAfter c (s .window) (bitXor (p .value) (s .value)))

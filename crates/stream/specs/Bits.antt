@@ -6,10 +6,6 @@ use Prim.Native.Nat.{ℕ, zero, suc, _+_, _-_, _*_, _/_, _%_, _^_}
 use lib.ListN.{length, take, drop, replicate}
 use lib.Dec.{eqb}
 
--- the most bytes that a lent buffer has
-abbrev pub limit : ℕ
-limit = 16777216
-
 -- ---- numbers
 
 -- the lowest binary digit of x

@@ -1,4 +1,1 @@
-// Bits in a lent buffer, highest first.
-
-// The longest buffer that is lent, in bytes.
-pub const LIMIT: usize = 16_777_216;
+// Bits in a lent buffer, highest first. Its definitions and laws are in specs/ and proofs/; the bit writer and reader belong here.
