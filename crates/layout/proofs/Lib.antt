@@ -1,6 +1,7 @@
 pub mod Cases
 pub mod Tests
 pub mod Fields
+pub mod Instances
 pub mod Xors
 pub mod Runs
 pub mod Prefix

@@ -6,7 +6,6 @@ use mathlib.Core.Bool.{Bool, true, false, cond}
 use mathlib.Core.List.{List, [], _∷_, _++_, append-assoc}
 use lib.Dec.{eqb, ltb, lit<}
 use lib.IntN.{ℤ, pos, negsuc, _+ℤ_, subℕ}
-use lib.ListN.{length}
 use borrow.Author.Tests.{ne-eqb, le-ltb, ltb-true, ltb-false}
 use Rattle.stream.specs.Bits.{digit, bitsOf}
 use Rattle.stream.proofs.Numbers.{length-bitsOf}

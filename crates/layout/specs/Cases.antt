@@ -8,8 +8,10 @@ use lib.ListN.{length, take, replicate}
 use Rattle.stream.specs.Bits as stream
 use Rattle.stream.specs.Bits.{bitsOf, padded, field}
 use Rattle.layout.specs.Rows.{minus, inField}
-use Rattle.layout.specs.Writing.{Point, pointOf, Progress, going, timeFault, startBits, firstBits, stateAfter, opened, streamBits}
-use Rattle.layout.specs.Answers.{Answer, aPoint, anEnd, refusal, outcomes, answers, torn}
+use Rattle.layout.specs.Windows.{window}
+use Rattle.layout.specs.Writing.{Point, pointOf, state, Progress, going, timeFault, startBits, firstBits, stateAfter, opened, streamBits}
+use Rattle.layout.specs.Reading.{Outcome, got, cut, run, Kind, timeControl, timeField, valueControl, windowZeros, valueDigits, firstMarker, Label, item, Found, readNext}
+use Rattle.layout.specs.Answers.{Answer, aPoint, anEnd, refusal, answers}
 
 -- what a case says of values of 64 bits
 pub data Case : Type 0 where
@@ -23,8 +25,8 @@ pub data Case : Type 0 where
   takes : (n : ℕ) (d : ℤ) (expected : Bool) → Case
   -- bits: the decoder's first answers
   reads : (s : List Bool) (expected : List Answer) → Case
-  -- bits and a cut to the first j of them: the first n answers are those that are torn off the whole's
-  cuts : (s : List Bool) (j n : ℕ) → Case
+  -- a place in a series and too few bits from there on: the item that is torn, and where it begins
+  lacks : (g : Progress) (s : List Bool) (kind : Kind) (first : ℕ) → Case
 
 -- ---- the two sides of a case
 
@@ -33,6 +35,8 @@ pub data Seen : Type 0 where
   ruling : ℕ → Seen
   taken : Bool → Seen
   told : List Answer → Seen
+  torn : (kind : Kind) (first : ℕ) → Seen
+  whole : Seen
 
 unfoldable pub orElse : ℕ → ℕ → ℕ
 orElse zero k = k
@@ -42,13 +46,17 @@ unfoldable pub firstFault : Progress → List Point → ℕ
 firstFault g [] = 0
 firstFault g (p ∷ ps) = orElse (timeFault g (p .time)) (firstFault (going (stateAfter 6 g p)) ps)
 
+unfoldable pub tornItem : Outcome Label Found → Seen
+tornItem (got a q) = whole
+tornItem (cut (item kind back) p n) = torn kind (p - back)
+
 unfoldable pub seen : Case → Seen
 seen (bytes start ps e n) = sized (length (streamBits 6 start ps)) (padded (streamBits 6 start ps))
 seen (bits start ps e n) = sized (length (streamBits 6 start ps)) (field (streamBits 6 start ps) (n - 36 - length e) (length e))
 seen (ruled start ps k) = ruling (firstFault (opened 6 start) ps)
 seen (takes n d e) = taken (inField n d)
 seen (reads s e) = told (answers 6 (length e) s)
-seen (cuts s j n) = told (answers 6 n (take j s))
+seen (lacks g s k q) = tornItem (run (readNext 6 g) 0 s)
 
 unfoldable pub expected : Case → Seen
 expected (bytes start ps e n) = sized n (stream.bits e)
@@ -56,7 +64,7 @@ expected (bits start ps e n) = sized n e
 expected (ruled start ps k) = ruling k
 expected (takes n d e) = taken e
 expected (reads s e) = told e
-expected (cuts s j n) = told (torn j (outcomes 6 n s))
+expected (lacks g s k q) = torn k q
 
 -- ---- the cases
 
@@ -172,17 +180,40 @@ ruleCases =
     ∷ reads (afterFirst (bitsOf 3 0b110 ++ bitsOf 9 0 ++ bitsOf 1 0)) (aPoint 10 0 143 ∷ aPoint 20 0 156 ∷ [])
     ∷ reads (windowed 63 0 (bitsOf 1 0)) (aPoint 10 0 143 ∷ aPoint 20 0 159 ∷ [])
     ∷ reads (afterFirst (bitsOf 3 0b010 ++ bitsOf 64 5)) (aPoint 10 0 143 ∷ aPoint 20 5 210 ∷ [])
-    -- a part: M6 torn in its start, behind it, in and behind its second point; a 9 with and without its last bit
-    ∷ cuts (streamBits 6 0 m6) 63 6
-    ∷ cuts (streamBits 6 0 m6) 64 6
-    ∷ cuts (streamBits 6 0 m6) 167 6
-    ∷ cuts (streamBits 6 0 m6) 168 6
-    ∷ cuts (windowed 1 63 (bitsOf 64 5)) 158 3
-    ∷ cuts (windowed 1 63 (bitsOf 64 5)) 157 3
+    ∷ []
+
+-- after a point at 10, with the window 2 and 52 of M4
+abbrev pub midway : Progress
+midway = going (state 10 10 0 (window 2 52))
+
+-- which item of a point is torn, and the first bit of that item
+unfoldable pub itemCases : List Case
+itemCases =
+    -- the first point: its control bit, its delta, its value; the marker in its place
+    lacks (opened 6 0) [] timeControl 0
+    ∷ lacks (opened 6 0) (bitsOf 14 0) timeField 1
+    ∷ lacks (opened 6 0) (bitsOf 15 10 ++ bitsOf 63 0) valueDigits 15
+    ∷ lacks (opened 6 0) (bitsOf 35 0x780000000) firstMarker 0
+    -- a later time: each control bit, each row's field, a marker torn in its zeros
+    ∷ lacks midway [] timeControl 0
+    ∷ lacks midway (bitsOf 1 0b1) timeControl 0
+    ∷ lacks midway (bitsOf 2 0b11) timeControl 0
+    ∷ lacks midway (bitsOf 3 0b111) timeControl 0
+    ∷ lacks midway (bitsOf 2 0b10 ++ bitsOf 6 0) timeField 2
+    ∷ lacks midway (bitsOf 3 0b110 ++ bitsOf 8 0) timeField 3
+    ∷ lacks midway (bitsOf 4 0b1110 ++ bitsOf 11 0) timeField 4
+    ∷ lacks midway (bitsOf 4 0b1111 ++ bitsOf 31 0) timeField 4
+    -- a later value: each control bit, both fields of a window, its digits; the digits of a window that is reused
+    ∷ lacks midway (bitsOf 1 0) valueControl 1
+    ∷ lacks midway (bitsOf 2 0b01) valueControl 1
+    ∷ lacks midway (bitsOf 3 0b011 ++ bitsOf 5 0) windowZeros 3
+    ∷ lacks midway (bitsOf 3 0b011 ++ bitsOf 11 0) windowZeros 3
+    ∷ lacks midway (bitsOf 3 0b011 ++ bitsOf 12 1 ++ bitsOf 1 0) valueDigits 15
+    ∷ lacks midway (bitsOf 3 0b010 ++ bitsOf 9 0) valueDigits 3
     ∷ []
 
 abbrev pub cases : List Case
-cases = markedCases ++ otherCases ++ ruleCases
+cases = markedCases ++ otherCases ++ ruleCases ++ itemCases
 
 -- `marked`
 abbrev pub Marked : Type 0

@@ -1,4 +1,5 @@
 pub mod Cases
+pub mod Instances
 pub mod Numbers
 pub mod Bytes
 pub mod Writes

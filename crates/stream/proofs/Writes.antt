@@ -118,6 +118,11 @@ module _ (bs : List Bool) (p : ℕ) where
   rest-replaced [] h some = absurd (omega arith)
   rest-replaced (b ∷ f) h some = rest-laid bs p h (b ∷ f)
 
+  none-replaced : (f : List Bool) → length f ≡ 0 → replaced bs p f ≡ bs
+  unfolding replaced
+  none-replaced [] e = refl
+  none-replaced (b ∷ f) e = absurd (omega arith)
+
   pub length-replaced : (m : ℕ) (f : List Bool) → length bs ≡ 8 * m → p + length f ≤ length bs → length (replaced bs p f) ≡ length bs
   unfolding replaced laid
   length-replaced m [] e h = refl
@@ -130,6 +135,7 @@ pub writes-leave : WritesLeave
 writes-leave bs p f h = record {
   back = field-replaced bs p f h;
   before = λ q m l. sym (field-take p q m (replaced bs p f) l) ∙ ap (λ (k : List Bool). field k q m) (take-replaced bs p f h) ∙ field-take p q m bs l;
+  none = none-replaced bs p f;
   rest = rest-replaced bs p f h;
   after = λ q m l. field-drop (edge (p + length f)) q m _ _ (drop-replaced bs p f h) l;
   two = λ g. replaced-append bs p f g h;

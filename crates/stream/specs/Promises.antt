@@ -35,6 +35,8 @@ pub record WriteLeaves (bs : List Bool) (p : ℕ) (f : List Bool) : Type 0 where
   pub back : field (replaced bs p f) p (length f) ≡ f
   -- every field before it is as it was
   pub before : (q m : ℕ) → q + m ≤ p → field (replaced bs p f) q m ≡ field bs q m
+  -- no bits change nothing
+  pub none : length f ≡ 0 → replaced bs p f ≡ bs
   -- the rest of the last byte touched is zero
   pub rest : 0 < length f → field (replaced bs p f) (p + length f) (spare (p + length f)) ≡ replicate (spare (p + length f)) false
   -- every field behind that byte is as it was
