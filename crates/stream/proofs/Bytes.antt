@@ -1,11 +1,11 @@
 -- Laws of bytes as bits.
 use mathlib.Core.Path.{_≡_, refl, sym, ap, ap₂, _∙_}
 use mathlib.Core.Bool.{Bool}
-use mathlib.Core.List.{List, [], _∷_, _++_}
-use Prim.Native.Nat.{ℕ, zero, suc, _+_, _*_}
+use mathlib.Core.List.{List, [], _∷_, _++_, append-assoc}
+use Prim.Native.Nat.{ℕ, zero, suc, _+_, _*_, _<_}
 use native.Mathlib.Omega.{arith}
-use lib.ListN.{length, take, drop, length-append}
-use lib.Seq.{take-at, drop-at, take-nil, drop-nil, take-append-add, drop-append-add}
+use lib.ListN.{length, take, drop, getD, length-append}
+use lib.Seq.{take-at, drop-at, take-nil, drop-nil, take-append-add, drop-append-add, drop-cons}
 use Rattle.stream.specs.Bits.{bitsOf, bits}
 use Rattle.stream.specs.Promises.{AreBytes, BytesAreBits}
 use Rattle.stream.proofs.Numbers.{length-bitsOf, bitsOf-inj}
@@ -14,6 +14,15 @@ pub length-bits : (l : List ℕ) → length (bits l) ≡ 8 * length l
 unfolding bits
 length-bits [] = refl
 length-bits (x ∷ l) = rw (length-append (bitsOf 8 x) (bits l), length-bitsOf 8 x, length-bits l) (omega arith)
+
+pub bits-cons : (x : ℕ) (l : List ℕ) → bits (x ∷ l) ≡ bitsOf 8 x ++ bits l
+unfolding bits
+bits-cons x l = refl
+
+pub bits-append : (l m : List ℕ) → bits (l ++ m) ≡ bits l ++ bits m
+unfolding bits
+bits-append [] m = refl
+bits-append (x ∷ l) m = rw (bits-append l m) (sym (append-assoc (bitsOf 8 x) (bits l) (bits m)))
 
 -- two lists of bytes with the same bits are the same
 pub bits-inj : (l m : List ℕ) → AreBytes l → AreBytes m → bits l ≡ bits m → l ≡ m
@@ -50,6 +59,10 @@ unfolding bits
 bits-drop zero l = refl
 bits-drop (suc k) [] = sym (drop-nil (8 * suc k))
 bits-drop (suc k) (b ∷ l) = rw (one-more k, drop-byte (bitsOf 8 b) (bits l) (8 * k) (length-bitsOf 8 b)) (bits-drop k l)
+
+-- the bits from byte i on
+pub bits-at : (i : ℕ) (l : List ℕ) → i < length l → drop (8 * i) (bits l) ≡ bitsOf 8 (getD l i 0) ++ bits (drop (suc i) l)
+bits-at i l h = sym (bits-drop i l) ∙ ap bits (drop-cons l i 0 h) ∙ bits-cons (getD l i 0) (drop (suc i) l)
 
 pub bytes-are-bits : BytesAreBits
 bytes-are-bits = record { size = length-bits; one = bits-inj; first = bits-take; rest = bits-drop }

@@ -3,12 +3,12 @@ use mathlib.Core.Path.{_≡_, refl, sym, ap, ap₂, _∙_}
 use mathlib.Core.Bool.{Bool, true, false}
 use mathlib.Core.List.{List, [], _∷_, _++_}
 use Prim.Native.Nat.{ℕ, zero, suc, _+_, _*_, _/_, _%_, _^_, _≤_, _<_}
-use native.Mathlib.Nat.{zero-add, suc-add, add-comm, mod-lt, mod-eq-of-lt, mod-mod, mul-le-mul-right, two-pow-succ}
+use native.Mathlib.Nat.{zero-add, suc-add, add-comm, mod-lt, mod-eq-of-lt, mod-mod, zero-div, zero-mul, mul-le-mul-right, two-pow-succ}
 use native.Mathlib.Numerals.{one-add}
 use native.Mathlib.Omega.{arith}
-use lib.ListN.{length}
+use lib.ListN.{length, replicate, length-append}
 use lib.Dec.{eqb}
-use lib.Pow.{shr-shr, mod-pow-add, high, low, field, mod-mod-pow}
+use lib.Pow.{shr-shr, mod-pow-add, high, low, field, mod-mod-pow, pow-add}
 use Rattle.stream.specs.Bits.{odd, bitsOf, digit, valueOf}
 use Rattle.stream.specs.Promises.{Digits}
 
@@ -69,6 +69,18 @@ bitsOf-mod (suc n) x =
     ap₂ (λ (b : Bool) (l : List Bool). b ∷ l) (rw (← one-add n, field x 1 n) (odd-mod (x / 2 ^ n)))
     (sym (bitsOf-mod n (x % 2 ^ suc n)) ∙ ap (bitsOf n) (mod-low n x) ∙ bitsOf-mod n x)
 
+-- a number made of two parts: the digits of the one, then those of the other
+pub bitsOf-join : (a b hi lo : ℕ) → lo < 2 ^ b → bitsOf (a + b) (hi * 2 ^ b + lo) ≡ bitsOf a hi ++ bitsOf b lo
+bitsOf-join a b hi lo h =
+    bitsOf-add a b (hi * 2 ^ b + lo)
+    ∙ ap₂ (λ (x : ℕ) (l : List Bool). bitsOf a x ++ l) (high hi b h)
+    (sym (bitsOf-mod b (hi * 2 ^ b + lo)) ∙ ap (bitsOf b) (low hi b h))
+
+pub bitsOf-zero : (n : ℕ) → bitsOf n 0 ≡ replicate n false
+unfolding bitsOf odd
+bitsOf-zero zero = refl
+bitsOf-zero (suc n) = ap₂ (λ (b : Bool) (l : List Bool). b ∷ l) (rw zero-div) (bitsOf-zero n)
+
 -- numbers that fit n digits and have the same ones are the same
 pub bitsOf-inj : (n x y : ℕ) → x < 2 ^ n → y < 2 ^ n → bitsOf n x ≡ bitsOf n y → x ≡ y
 bitsOf-inj n x y hx hy e =
@@ -78,6 +90,11 @@ pub value-lt : (bs : List Bool) → valueOf bs < 2 ^ length bs
 unfolding valueOf
 value-lt [] = omega arith
 value-lt (b ∷ bs) = omega (arith, value-lt bs, mul-le-mul-right (2 ^ length bs) (digit-le b), two-pow-succ (length bs))
+
+pub value-append : (f g : List Bool) → valueOf (f ++ g) ≡ valueOf f * 2 ^ length g + valueOf g
+unfolding valueOf
+value-append [] g = rw zero-mul (sym (zero-add (valueOf g)))
+value-append (b ∷ f) g = rw (length-append f g, value-append f g, pow-add 2 (length f) (length g)) (omega arith)
 
 -- a list of digits is that of its value
 pub bitsOf-value : (bs : List Bool) → bitsOf (length bs) (valueOf bs) ≡ bs

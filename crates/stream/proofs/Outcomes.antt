@@ -1,0 +1,116 @@
+-- The cases of what the calls tell.
+use mathlib.Core.Path.{_≡_, refl, sym, ap, _∙_}
+use mathlib.Core.Bool.{Bool, true, false}
+use mathlib.Core.List.{List, [], _∷_}
+use Prim.Native.Nat.{ℕ, zero, suc, _+_, _*_, _^_, _≤_, _<_}
+use native.Mathlib.Omega.{arith}
+use borrow.Author.Tests.{ltb-false}
+use lib.ListN.{length}
+use Rattle.stream.specs.Bits.{bitsOf, valueOf, bits, field, replaced}
+use Rattle.stream.specs.Refusals.{numberOf, when, orElse}
+use Rattle.stream.specs.Calls.{limit, Told, given, refused, tellBits, width, fieldFault, writeBy, writeOf, readBy, readOf, peekOf}
+use Rattle.stream.specs.declared.refusal.Refusal.{Refusal}
+use Rattle.stream.specs.declared.refusal.Refusal.the-variants.{NoRoom, TimeFalls, FirstDelta, DodRange, TooLong, NoStart, CutShort, BadEnd, BadWindow, ReadTimeFalls, ReadTimePasses, Closed, NoFit}
+use Rattle.stream.specs.declared.buffered_read.BitsAnswer.{BitsAnswer}
+use Rattle.stream.proofs.Numbers.{length-bitsOf}
+use Rattle.stream.proofs.Taking.{field-lt}
+
+-- ---- rules in order
+
+-- where no rule holds, neither of two does
+pub none-holds : (a b : ℕ) → 0 ≡ orElse a b → (0 ≡ a) × (0 ≡ b)
+unfolding orElse
+none-holds zero b e = (refl, e)
+none-holds (suc a) b e = absurd (omega arith)
+
+pub not-when : (b : Bool) (r : ℕ) → 0 < r → 0 ≡ when b r → b ≡ false
+unfolding when
+not-when true r h e = absurd (omega arith)
+not-when false r h e = refl
+
+-- a field with no fault lies in its buffer, which is within the limit
+pub fits : (short len p n : ℕ) → 0 < short → 0 ≡ fieldFault short len p n → (len ≤ limit) × (p + n ≤ 8 * len)
+unfolding fieldFault
+fits short len p n h e =
+    let a = none-holds _ _ e in
+    let b = none-holds _ _ (a .1) in
+    (ltb-false _ _ (not-when _ 5 (omega arith) (a .0)), ltb-false _ _ (not-when _ short h (b .1)))
+
+-- 0 is no refusal's number
+pub number-pos : (r : Refusal) → 0 < numberOf r
+number-pos NoRoom = omega arith
+number-pos TimeFalls = omega arith
+number-pos FirstDelta = omega arith
+number-pos DodRange = omega arith
+number-pos TooLong = omega arith
+number-pos NoStart = omega arith
+number-pos CutShort = omega arith
+number-pos BadEnd = omega arith
+number-pos BadWindow = omega arith
+number-pos ReadTimeFalls = omega arith
+number-pos ReadTimePasses = omega arith
+number-pos Closed = omega arith
+number-pos NoFit = omega arith
+
+-- ---- a write
+
+write-refused : (k : ℕ) (bs : List Bool) (p : ℕ) (f : List Bool) → 0 < k → writeBy k bs p f ≡ (refused k, p, bs)
+unfolding writeBy
+write-refused zero bs p f h = absurd (omega arith)
+write-refused (suc k) bs p f h = refl
+
+module _ (l : List ℕ) (p x num n : ℕ) (e : n ≡ width num) where
+  pub wrote-not : (r : Refusal) → numberOf r ≡ fieldFault 1 (length l) p n → (refused (numberOf r), p, bits l) ≡ writeOf l p x num
+  unfolding writeOf
+  wrote-not r f = rw (← e, ← f) (sym (write-refused (numberOf r) (bits l) p (bitsOf n x) (number-pos r)))
+
+  pub wrote : (m : List Bool) → 0 ≡ fieldFault 1 (length l) p n → m ≡ replaced (bits l) p (bitsOf n x)
+      → (given [], p + n, m) ≡ writeOf l p x num
+  unfolding writeOf writeBy
+  wrote m f h = rw (← e, ← f, h, length-bitsOf n x)
+
+-- ---- a read
+
+read-refused : (k p q : ℕ) (f : List Bool) → 0 < k → readBy k p q f ≡ (refused k, p)
+unfolding readBy
+read-refused zero p q f h = absurd (omega arith)
+read-refused (suc k) p q f h = refl
+
+module _ (l : List ℕ) (p num n : ℕ) (e : n ≡ width num) where
+  pub read-not : (r : Refusal) → numberOf r ≡ fieldFault 7 (length l) p n → (refused (numberOf r), p) ≡ readOf l p num
+  unfolding readOf
+  read-not r f = rw (← e, ← f) (sym (read-refused (numberOf r) p (p + n) (field (bits l) p n) (number-pos r)))
+
+  pub read-there : (v : ℕ) → 0 ≡ fieldFault 7 (length l) p n → v ≡ valueOf (field (bits l) p n) → (given (v ∷ []), p + n) ≡ readOf l p num
+  unfolding readOf readBy
+  read-there v f h = rw (← e, ← f, h)
+
+-- the answer by its case
+pub told-as : (l : List ℕ) (p num q : ℕ) (a b : BitsAnswer) → a ≡ b → (tellBits a, q) ≡ readOf l p num → (tellBits b, q) ≡ readOf l p num
+told-as l p num q a b e h = sym (ap (λ (x : BitsAnswer). (tellBits x, q)) e) ∙ h
+
+-- a number that was read has no more digits than were asked for
+got-lt : (k p q v r n : ℕ) (f : List Bool) → (given (v ∷ []), r) ≡ readBy k p q f → valueOf f < 2 ^ n → v < 2 ^ n
+unfolding readBy
+got-lt zero p q v r n f e h =
+    let t : given (v ∷ []) ≡ given (valueOf f ∷ []) = ap (λ (x : Told × ℕ). x .0) e in
+    let z : v ≡ valueOf f = cc in
+    rw z h
+got-lt (suc k) p q v r n f e h =
+    let t : given (v ∷ []) ≡ refused (suc k) = ap (λ (x : Told × ℕ). x .0) e in
+    let z : _≡_ {A = ℕ} 0 1 = cc in
+    absurd (omega arith)
+
+pub read-lt : (l : List ℕ) (p num v q : ℕ) → (given (v ∷ []), q) ≡ readOf l p num → v < 2 ^ width num
+unfolding readOf
+read-lt l p num v q e = got-lt _ _ _ _ _ _ _ e (field-lt (bits l) p (width num))
+
+-- a peek tells what a read tells, and stays
+stays : (k p q r : ℕ) (a : Told) (f : List Bool) → (a, q) ≡ readBy k p r f → (a, p) ≡ readBy k p p f
+unfolding readBy
+stays zero p q r a f e = ap (λ (x : Told × ℕ). (x .0, p)) e
+stays (suc k) p q r a f e = ap (λ (x : Told × ℕ). (x .0, p)) e
+
+pub peeked : (l : List ℕ) (p num q : ℕ) (a : Told) → (a, q) ≡ readOf l p num → (a, p) ≡ peekOf l p num
+unfolding readOf peekOf
+peeked l p num q a e = stays _ _ _ _ _ _ e

@@ -1,0 +1,62 @@
+use borrow.Author.Needs.{needs}
+use mathlib.Core.Path.{_≡_, sym, ap, _∙_}
+use native.Mathlib.Omega.{arith}
+use lib.ListN.{length}
+use Rattle.stream.specs.Calls.{fieldFault}
+use Rattle.stream.specs.Fits.{faultOf}
+use Rattle.stream.proofs.Outcomes.{fits, wrote-not, wrote}
+use Rattle.stream.proofs.buffered_write.BufferedWriter.write_bits.Statement.{statement}
+use Rattle.stream.proofs.buffered_write.BufferedWriter.write_bits.Tie as tie
+
+-- the field is there
+whole : (c : tie.After-enum-told) → 0 ≡ fieldFault 1 (length (c .before .before .before .before .before .args .buf .now)) (c .before .before .before .before .before .args .self .at .0) (c .before .before .before .width-of .result)
+whole c = ap faultOf (sym (c .enum-told .given .1)) ∙ c .before .before .fit-of .ensures
+
+width-of-requires : tie.Need-width-of-requires
+width-of-requires c κs = search needs
+
+fit-of-requires : tie.Need-fit-of-requires
+fit-of-requires c κs = search needs
+
+enum-known-f : tie.Need-enum-known-f
+enum-known-f c = search needs
+
+enum-told : tie.Need-enum-told
+enum-told c = search needs
+
+put-field-requires : tie.Need-put-field-requires
+put-field-requires c κs =
+    let k = fits 1 _ _ _ (omega arith) (whole (c .before)) in
+    (k .0, (omega arith, k .1))
+
+add-t19 : tie.Need-add-t19
+add-t19 c =
+    let k = fits 1 _ _ _ (omega arith) (whole (c .before .before .before .before)) in
+    omega arith
+
+returns : tie.Need-returns
+returns c =
+    let b = c .before .before .before in
+    wrote-not _ _ _ _ _ (b .before .width-of .ensures) (c .before .f .given .0 .0) (ap faultOf (sym (c .before .f .given .1)) ∙ b .fit-of .ensures)
+
+same-length : tie.Need-same-length
+same-length c = search needs
+
+returns-2 : tie.Need-returns-2
+returns-2 c =
+    let told = c .before .before .before .before in
+    wrote _ _ _ _ _ (told .before .before .before .width-of .ensures) _ (whole told) (c .before .before .put-field .ensures)
+
+pub write-bits-spec : {M : Type 1} → statement M
+write-bits-spec =
+    tie.close
+    (tie.spec
+    width-of-requires
+    fit-of-requires
+    enum-known-f
+    enum-told
+    put-field-requires
+    add-t19
+    returns
+    same-length
+    returns-2)
