@@ -6,3 +6,5 @@ pub mod Writes
 pub mod Placing
 pub mod Taking
 pub mod Outcomes
+pub mod CallLaws
+pub mod OneOutcome

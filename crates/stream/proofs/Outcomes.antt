@@ -2,13 +2,14 @@
 use mathlib.Core.Path.{_≡_, refl, sym, ap, _∙_}
 use mathlib.Core.Bool.{Bool, true, false}
 use mathlib.Core.List.{List, [], _∷_}
-use Prim.Native.Nat.{ℕ, zero, suc, _+_, _*_, _^_, _≤_, _<_}
+use Prim.Native.Nat.{ℕ, zero, suc, _+_, _-_, _*_, _^_, _≤_, _<_}
 use native.Mathlib.Omega.{arith}
 use borrow.Author.Tests.{ltb-false}
-use lib.ListN.{length}
+use lib.ListN.{length, getD}
 use Rattle.stream.specs.Bits.{bitsOf, valueOf, bits, field, replaced}
 use Rattle.stream.specs.Refusals.{numberOf, when, orElse}
 use Rattle.stream.specs.Calls.{limit, Told, given, refused, tellBits, width, fieldFault, writeBy, writeOf, readBy, readOf, peekOf}
+use Rattle.stream.specs.Promises.{Tells}
 use Rattle.stream.specs.declared.refusal.Refusal.{Refusal}
 use Rattle.stream.specs.declared.refusal.Refusal.the-variants.{NoRoom, TimeFalls, FirstDelta, DodRange, TooLong, NoStart, CutShort, BadEnd, BadWindow, ReadTimeFalls, ReadTimePasses, Closed, NoFit}
 use Rattle.stream.specs.declared.buffered_read.BitsAnswer.{BitsAnswer}
@@ -16,6 +17,10 @@ use Rattle.stream.proofs.Numbers.{length-bitsOf}
 use Rattle.stream.proofs.Taking.{field-lt}
 
 -- ---- rules in order
+
+positive : (k : ℕ) → ¬ (k ≡ 0) → 0 < k
+positive zero h = absurd (h refl)
+positive (suc k) h = omega arith
 
 -- where no rule holds, neither of two does
 pub none-holds : (a b : ℕ) → 0 ≡ orElse a b → (0 ≡ a) × (0 ≡ b)
@@ -36,21 +41,38 @@ fits short len p n h e =
     let b = none-holds _ _ (a .1) in
     (ltb-false _ _ (not-when _ 5 (omega arith) (a .0)), ltb-false _ _ (not-when _ short h (b .1)))
 
--- 0 is no refusal's number
+-- ---- numbers of refusals
+
+-- the table's order
+refusalAt : ℕ → Refusal
+refusalAt n = getD (NoRoom ∷ TimeFalls ∷ FirstDelta ∷ DodRange ∷ TooLong ∷ NoStart ∷ CutShort ∷ BadEnd ∷ BadWindow ∷ ReadTimeFalls ∷ ReadTimePasses ∷ Closed ∷ NoFit ∷ []) (n - 1) NoRoom
+
+at-number : (r : Refusal) → refusalAt (numberOf r) ≡ r
+unfolding refusalAt
+at-number NoRoom = refl
+at-number TimeFalls = refl
+at-number FirstDelta = refl
+at-number DodRange = refl
+at-number TooLong = refl
+at-number NoStart = refl
+at-number CutShort = refl
+at-number BadEnd = refl
+at-number BadWindow = refl
+at-number ReadTimeFalls = refl
+at-number ReadTimePasses = refl
+at-number Closed = refl
+at-number NoFit = refl
+
+-- a refusal is its number
+pub by-number : Tells Refusal ℕ numberOf
+by-number r s e = sym (at-number r) ∙ ap refusalAt e ∙ at-number s
+
+-- which is not 0
 pub number-pos : (r : Refusal) → 0 < numberOf r
-number-pos NoRoom = omega arith
-number-pos TimeFalls = omega arith
-number-pos FirstDelta = omega arith
-number-pos DodRange = omega arith
-number-pos TooLong = omega arith
-number-pos NoStart = omega arith
-number-pos CutShort = omega arith
-number-pos BadEnd = omega arith
-number-pos BadWindow = omega arith
-number-pos ReadTimeFalls = omega arith
-number-pos ReadTimePasses = omega arith
-number-pos Closed = omega arith
-number-pos NoFit = omega arith
+unfolding refusalAt
+number-pos r =
+    positive (numberOf r)
+    (λ z. let one : numberOf r ≡ 1 = ap numberOf (sym (at-number r) ∙ ap refusalAt z) in absurd (omega arith))
 
 -- ---- a write
 

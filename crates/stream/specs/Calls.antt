@@ -1,7 +1,7 @@
 -- What the calls of the bit writer and the bit reader tell, and what a write leaves: document 01, "Port order", 2.
 use mathlib.Core.Bool.{Bool}
 use mathlib.Core.List.{List, [], _∷_}
-use Prim.Native.Nat.{ℕ, zero, suc, _+_, _*_, min}
+use Prim.Native.Nat.{ℕ, zero, suc, _+_, _*_, _%_, _^_, min}
 use lib.ListN.{length}
 use lib.Dec.{ltb}
 use Rattle.stream.specs.Bits.{bitsOf, valueOf, bits, field, replaced}
@@ -81,6 +81,10 @@ readBy (suc r) p q f = (refused (suc r), p)
 -- a read of num bits at p out of the bytes l
 unfoldable pub readOf : List ℕ → ℕ → ℕ → Told × ℕ
 readOf l p num = readBy (fieldFault 7 (length l) p (width num)) p (p + width num) (field (bits l) p (width num))
+
+-- what a read answers where the num low bits of x were written
+unfoldable pub readBack : ℕ → ℕ → ℕ → Told × ℕ
+readBack x num p = (given (x % 2 ^ width num ∷ []), p + width num)
 
 -- a peek is a read that does not move
 unfoldable pub peekOf : List ℕ → ℕ → ℕ → Told × ℕ

@@ -1,10 +1,23 @@
--- What is promised of bits, bytes and fields.
+-- What is promised of bits, bytes and fields, and of the calls that write and read them.
 use mathlib.Core.Path.{_≡_}
 use mathlib.Core.Bool.{Bool, false}
-use mathlib.Core.List.{List, _++_}
+use mathlib.Core.List.{List, [], _∷_, _++_}
 use Prim.Native.Nat.{ℕ, _+_, _*_, _/_, _%_, _^_, _≤_, _<_}
 use lib.ListN.{length, take, drop, getD, replicate}
 use Rattle.stream.specs.Bits.{bitsOf, valueOf, bits, edge, spare, field, replaced}
+use Rattle.stream.specs.Refusals.{numberOf}
+use Rattle.stream.specs.Calls.{Told, given, bitNumber, tellWrite, tellBit, tellByte, tellBits, tellInBits, width, fieldFault, writeOf, readOf, readBack}
+use Rattle.stream.specs.declared.Bit.{Bit}
+use Rattle.stream.specs.declared.refusal.Refusal.{Refusal}
+use Rattle.stream.specs.declared.position.BitPos.{BitPos}
+use Rattle.stream.specs.declared.position.ByteCount.{ByteCount}
+use Rattle.stream.specs.declared.position.InBits.{InBits}
+use Rattle.stream.specs.declared.buffered_write.BufferedWriter.{BufferedWriter}
+use Rattle.stream.specs.declared.buffered_write.Written.{Written}
+use Rattle.stream.specs.declared.buffered_read.BufferedReader.{BufferedReader}
+use Rattle.stream.specs.declared.buffered_read.BitRead.{BitRead}
+use Rattle.stream.specs.declared.buffered_read.ByteRead.{ByteRead}
+use Rattle.stream.specs.declared.buffered_read.BitsRead.{BitsRead}
 
 -- `digits`: a number and its digits
 pub record Digits : Type 0 where
@@ -48,3 +61,44 @@ pub record WriteLeaves (bs : List Bool) (p : ℕ) (f : List Bool) : Type 0 where
 
 abbrev pub WritesLeave : Type 0
 WritesLeave = (bs : List Bool) (p : ℕ) (f : List Bool) → p ≤ length bs → WriteLeaves bs p f
+
+-- ---- the calls
+
+-- `write-call`: after a write of the num low bits of x at p into the bytes l, which has left the bytes m
+pub record WriteCall (l m : List ℕ) (p x num : ℕ) : Type 0 where
+  -- refused, it has changed no byte
+  pub kept : 0 < fieldFault 1 (length l) p (width num) → m ≡ l
+  -- accepted, it is read back
+  pub back : fieldFault 1 (length l) p (width num) ≡ 0 → readOf m p num ≡ readBack x num p
+  -- what a read of a field before it answers is what it answered; so it is behind the last byte touched
+  pub before : (q k : ℕ) → q + width k ≤ p → readOf m q k ≡ readOf l q k
+  pub after : (q k : ℕ) → edge (p + width num) ≤ q → readOf m q k ≡ readOf l q k
+  -- with another write behind it, it is one write of both numbers' bits
+  pub two : (y k : ℕ) → num + k ≤ 64 → fieldFault 1 (length l) p (num + k) ≡ 0
+      → writeOf m (p + num) y k ≡ writeOf l p (x * 2 ^ k + y % 2 ^ k) (num + k)
+
+-- for all that meets what the call states
+abbrev pub WriteCalls : Type 0
+WriteCalls =
+    (l m : List ℕ) (p x num q : ℕ) (t : Told) → AreBytes l → AreBytes m → (t, q, bits m) ≡ writeOf l p x num → WriteCall l m p x num
+
+-- what a call states of its outcome says all of it
+abbrev pub Tells : (A O : Type 0) → (A → O) → Type 0
+Tells A O tell = (r s : A) → tell r ≡ tell s → r ≡ s
+
+-- `one-outcome`: no two outcomes meet the statement of a call
+pub record OneOutcome : Type 0 where
+  pub write : (r s : Written) (m n : List ℕ) (o : Told × ℕ × List Bool) → AreBytes m → AreBytes n
+      → (tellWrite (r .answer), r .writer .at .0, bits m) ≡ o → (tellWrite (s .answer), s .writer .at .0, bits n) ≡ o
+      → (r ≡ s) × (m ≡ n)
+  pub readBit : Tells BitRead (Told × ℕ) (λ r. (tellBit (r .answer), r .reader .at .0))
+  pub readByte : Tells ByteRead (Told × ℕ) (λ r. (tellByte (r .answer), r .reader .at .0))
+  pub readBits : Tells BitsRead (Told × ℕ) (λ r. (tellBits (r .answer), r .reader .at .0))
+  pub toBits : Tells InBits Told tellInBits
+  pub number : Tells Refusal ℕ numberOf
+  pub bit : Tells Bit ℕ bitNumber
+  -- a struct of one number is that number
+  pub position : Tells BitPos ℕ (λ p. p .0)
+  pub count : Tells ByteCount ℕ (λ n. n .0)
+  pub writer : Tells BufferedWriter ℕ (λ w. w .at .0)
+  pub reader : Tells BufferedReader ℕ (λ r. r .at .0)

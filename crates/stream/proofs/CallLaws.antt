@@ -1,0 +1,117 @@
+-- What a write leaves for later reads and writes, as calls.
+use mathlib.Core.Path.{_≡_, refl, sym, ap, _∙_}
+use mathlib.Core.Bool.{Bool}
+use mathlib.Core.List.{List, [], _∷_, _++_}
+use Prim.Native.Nat.{ℕ, zero, suc, _+_, _*_, _%_, _^_, _≤_, _<_, min}
+use native.Mathlib.Nat.{mod-lt, add-assoc, min-eq-left, min-le-left}
+use native.Mathlib.Omega.{arith}
+use borrow.Author.Tests.{le-ltb}
+use lib.ListN.{length, length-append}
+use lib.Pow.{pow-pos}
+use Rattle.stream.specs.Bits.{bitsOf, valueOf, bits, edge, field, replaced}
+use Rattle.stream.specs.Refusals.{when, orElse}
+use Rattle.stream.specs.Calls.{limit, Told, given, refused, width, fieldFault, writeBy, writeOf, readBy, readOf, readBack}
+use Rattle.stream.specs.Promises.{AreBytes, WriteLeaves, WriteCall, WriteCalls}
+use Rattle.stream.proofs.Numbers.{length-bitsOf, value-bitsOf, bitsOf-join, bitsOf-mod}
+use Rattle.stream.proofs.Bytes.{length-bits, bits-inj}
+use Rattle.stream.proofs.Writes.{replaced-append, length-replaced, writes-leave}
+use Rattle.stream.proofs.Outcomes.{fits}
+
+-- a field that lies in a buffer within the limit has no fault
+pub no-fault : (short len p n : ℕ) → len ≤ limit → p + n ≤ 8 * len → fieldFault short len p n ≡ 0
+unfolding fieldFault when orElse
+no-fault short len p n h k = simp (le-ltb limit len h, le-ltb (8 * len) p (omega arith), le-ltb (8 * len) (p + n) k)
+
+-- the same bits at q, the same answer
+same-read : (l m : List ℕ) (q k : ℕ) → length m ≡ length l → field (bits m) q (width k) ≡ field (bits l) q (width k)
+    → readOf m q k ≡ readOf l q k
+unfolding readOf
+same-read l m q k e f = rw (e, f)
+
+-- one write behind another is one write of both fields
+joined : (bs ms : List Bool) (p q : ℕ) (f g h : List Bool) → ms ≡ replaced bs p f → p ≤ length bs → q ≡ p + length f → h ≡ f ++ g
+    → writeBy 0 ms q g ≡ writeBy 0 bs p h
+unfolding writeBy
+joined bs ms p q f g h em l eq eh =
+    rw (em, eq, eh, replaced-append bs p f g l, length-append f g, add-assoc p (length f) (length g))
+
+module _ (l m : List ℕ) (p x num : ℕ) (none : 0 ≡ fieldFault 1 (length l) p (width num)) (e : bits m ≡ replaced (bits l) p (bitsOf (width num) x)) where
+  within : p + width num ≤ 8 * length l
+  within = fits 1 _ _ _ (omega arith) none .1
+
+  starts : p ≤ length (bits l)
+  starts = rw (length-bits l) (omega (arith, within))
+
+  same-size : length m ≡ length l
+  same-size =
+      let n : length (bits m) ≡ length (bits l) =
+      rw e (length-replaced (bits l) p (length l) (bitsOf (width num) x) (length-bits l) (rw (length-bitsOf (width num) x, length-bits l) within))
+      in omega (arith, n, length-bits m, length-bits l)
+
+  -- a field that the write has left is read as it was
+  untouched : (q k : ℕ) → field (replaced (bits l) p (bitsOf (width num) x)) q (width k) ≡ field (bits l) q (width k) → readOf m q k ≡ readOf l q k
+  untouched q k f = same-read l m q k same-size (rw e f)
+
+  read-back : readOf m p num ≡ readBack x num p
+  unfolding readOf readBy readBack
+  read-back =
+      let there = rw (length-bitsOf (width num) x) at (writes-leave (bits l) p (bitsOf (width num) x) starts .back) in
+      rw (no-fault 7 (length m) p (width num) (rw same-size (fits 1 _ _ _ (omega arith) none .0)) (rw same-size within), e, there, value-bitsOf (width num) x)
+
+  -- two numbers' bits in one number
+  both-bits : (y k : ℕ) → bitsOf (num + k) (x * 2 ^ k + y % 2 ^ k) ≡ bitsOf num x ++ bitsOf k y
+  both-bits y k =
+      bitsOf-join num k x (y % 2 ^ k) (mod-lt y (pow-pos k)) ∙ ap (λ (g : List Bool). bitsOf num x ++ g) (bitsOf-mod k y)
+
+  two-writes : (y k : ℕ) → num + k ≤ 64 → fieldFault 1 (length l) p (num + k) ≡ 0
+      → writeOf m (p + num) y k ≡ writeOf l p (x * 2 ^ k + y % 2 ^ k) (num + k)
+  unfolding writeOf
+  two-writes y k h free =
+      let a : width num ≡ num = min-eq-left (omega arith) in
+      let b : width k ≡ k = min-eq-left (omega arith) in
+      let c : width (num + k) ≡ num + k = min-eq-left h in
+      let room = fits 1 _ _ _ (omega arith) (sym free) in
+      let here : fieldFault 1 (length m) (p + num) k ≡ 0 = no-fault 1 (length m) (p + num) k (rw same-size (room .0)) (rw same-size (omega arith)) in
+      rw (b, c, here, free)
+      (joined (bits l) (bits m) p (p + num) (bitsOf num x) (bitsOf k y) _ (rw a at e) starts (rw (length-bitsOf num x)) (both-bits y k))
+
+-- a refused write has left the bits as they were
+left : (k q p : ℕ) (t : Told) (bs ms f : List Bool) → 0 < k → (t, q, ms) ≡ writeBy k bs p f → ms ≡ bs
+unfolding writeBy
+left zero q p t bs ms f h e = absurd (omega arith)
+left (suc k) q p t bs ms f h e = ap (λ (o : Told × ℕ × List Bool). o .2) e
+
+-- an accepted one has put its field
+put : (k q p : ℕ) (t : Told) (bs ms f : List Bool) → 0 ≡ k → (t, q, ms) ≡ writeBy k bs p f → ms ≡ replaced bs p f
+unfolding writeBy
+put zero q p t bs ms f h e = ap (λ (o : Told × ℕ × List Bool). o .2) e
+put (suc k) q p t bs ms f h e = absurd (omega arith)
+
+either : {A : Type 0} (k : ℕ) → (0 ≡ k → A) → (0 < k → A) → A
+either zero none some = none refl
+either (suc k) none some = some (omega arith)
+
+pub write-calls : WriteCalls
+unfolding writeOf
+write-calls l m p x num q t hl hm e =
+    let f = bitsOf (width num) x in
+    let same : 0 < fieldFault 1 (length l) p (width num) → m ≡ l = λ some. bits-inj m l hm hl (left _ q p t (bits l) (bits m) f some e) in
+    let done : 0 ≡ fieldFault 1 (length l) p (width num) → bits m ≡ replaced (bits l) p f = λ none. put _ q p t (bits l) (bits m) f none e in
+    let leaves : (none : 0 ≡ fieldFault 1 (length l) p (width num)) → WriteLeaves (bits l) p f =
+    λ none. writes-leave (bits l) p f (starts l m p x num none (done none))
+    in
+    let edge-at : edge (p + length f) ≡ edge (p + width num) = ap (λ (n : ℕ). edge (p + n)) (length-bitsOf (width num) x) in
+    record {
+      kept = same;
+      back = λ none. read-back l m p x num (sym none) (done (sym none));
+      before = λ q k h. either _
+          (λ none. untouched l m p x num none (done none) q k (leaves none .before q (width k) h))
+          (λ some. ap (λ (z : List ℕ). readOf z q k) (same some));
+      after = λ q k h. either _
+          (λ none. untouched l m p x num none (done none) q k (leaves none .after q (width k) (rw edge-at h)))
+          (λ some. ap (λ (z : List ℕ). readOf z q k) (same some));
+      two = λ y k h free.
+          let room = fits 1 _ _ _ (omega arith) (sym free) in
+          let none : 0 ≡ fieldFault 1 (length l) p (width num) = sym (no-fault 1 (length l) p (width num) (room .0) (omega (arith, room .1, min-le-left num 64))) in
+          two-writes l m p x num none (done none) y k h free;
+    }
