@@ -1,17 +1,17 @@
 -- What a write leaves for later reads and writes, as calls.
 use mathlib.Core.Path.{_≡_, refl, sym, ap, _∙_}
 use mathlib.Core.Bool.{Bool}
-use mathlib.Core.List.{List, [], _∷_, _++_}
-use Prim.Native.Nat.{ℕ, zero, suc, _+_, _*_, _%_, _^_, _≤_, _<_, min}
+use mathlib.Core.List.{List, _++_}
+use Prim.Native.Nat.{ℕ, zero, suc, _+_, _*_, _%_, _^_, _≤_, _<_}
 use native.Mathlib.Nat.{mod-lt, add-assoc, min-eq-left, min-le-left}
 use native.Mathlib.Omega.{arith}
 use borrow.Author.Tests.{le-ltb}
 use lib.ListN.{length, length-append}
 use lib.Pow.{pow-pos}
-use Rattle.stream.specs.Bits.{bitsOf, valueOf, bits, edge, field, replaced}
+use Rattle.stream.specs.Bits.{bitsOf, bits, edge, field, replaced}
 use Rattle.stream.specs.Refusals.{when, orElse}
-use Rattle.stream.specs.Calls.{limit, Told, given, refused, width, fieldFault, writeBy, writeOf, readBy, readOf, readBack}
-use Rattle.stream.specs.Promises.{AreBytes, WriteLeaves, WriteCall, WriteCalls}
+use Rattle.stream.specs.Calls.{limit, Told, refused, width, fieldFault, writeBy, writeOf, readBy, readOf, readBack}
+use Rattle.stream.specs.Promises.{WriteLeaves, WriteCalls}
 use Rattle.stream.proofs.Numbers.{length-bitsOf, value-bitsOf, bitsOf-join, bitsOf-mod}
 use Rattle.stream.proofs.Bytes.{length-bits, bits-inj}
 use Rattle.stream.proofs.Writes.{replaced-append, length-replaced, writes-leave}

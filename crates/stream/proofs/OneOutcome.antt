@@ -1,12 +1,11 @@
 -- What the calls state leaves no choice.
 use mathlib.Core.Path.{_≡_, refl, sym, ap, _∙_}
 use mathlib.Core.Bool.{Bool}
-use mathlib.Core.List.{List, [], _∷_}
+use mathlib.Core.List.{List}
 use Prim.Native.Nat.{ℕ, _-_}
-use lib.ListN.{getD}
 use Rattle.stream.specs.Bits.{bits}
 use Rattle.stream.specs.Refusals.{numberOf}
-use Rattle.stream.specs.Calls.{Told, given, refused, bitNumber, tellWrite, tellBit, tellByte, tellBits, tellInBits}
+use Rattle.stream.specs.Calls.{Told, refused, bitNumber, tellWrite, tellBit, tellByte, tellBits, tellInBits}
 use Rattle.stream.specs.Promises.{AreBytes, Tells, OneOutcome}
 use Rattle.stream.specs.declared.Bit.{Bit}
 use Rattle.stream.specs.declared.Bit.the-variants.{Zero, One}

@@ -1,12 +1,12 @@
 -- What is promised of bits, bytes and fields, and of the calls that write and read them.
 use mathlib.Core.Path.{_≡_}
 use mathlib.Core.Bool.{Bool, false}
-use mathlib.Core.List.{List, [], _∷_, _++_}
+use mathlib.Core.List.{List, _++_}
 use Prim.Native.Nat.{ℕ, _+_, _*_, _/_, _%_, _^_, _≤_, _<_}
 use lib.ListN.{length, take, drop, getD, replicate}
 use Rattle.stream.specs.Bits.{bitsOf, valueOf, bits, edge, spare, field, replaced}
 use Rattle.stream.specs.Refusals.{numberOf}
-use Rattle.stream.specs.Calls.{Told, given, bitNumber, tellWrite, tellBit, tellByte, tellBits, tellInBits, width, fieldFault, writeOf, readOf, readBack}
+use Rattle.stream.specs.Calls.{Told, bitNumber, tellWrite, tellBit, tellByte, tellBits, tellInBits, width, fieldFault, writeOf, readOf, readBack}
 use Rattle.stream.specs.declared.Bit.{Bit}
 use Rattle.stream.specs.declared.refusal.Refusal.{Refusal}
 use Rattle.stream.specs.declared.position.BitPos.{BitPos}

@@ -1,0 +1,29 @@
+-- What is promised of points.
+use mathlib.Core.Path.{_≡_}
+use mathlib.Core.Bool.{true, false}
+use Prim.Native.Nat.{_^_, _<_}
+use lib.Dec.{T}
+use lib.Ieee.{fits, isNan, nanBits, binary64}
+use Rattle.point.specs.Points.{sameOf, storedOf, pointOf}
+use Rattle.point.specs.declared.DataPoint.{DataPoint}
+use Rattle.point.specs.declared.Stored.{Stored}
+
+-- `there-and-back`: what the two forms keep
+pub record ThereAndBack : Type 0 where
+  -- every bit, for each pattern that is no NaN's
+  pub bitsBack : (s : Stored) → s .bits < 2 ^ 64 → nanBits binary64 (s .bits) ≡ false → storedOf (pointOf s) ≡ s
+  -- of a NaN's pattern, that it is one
+  pub nanBack : (s : Stored) → nanBits binary64 (s .bits) ≡ true → storedOf (pointOf s) ≡ record { time = s .time; bits = 0x7ff8_0000_0000_0000 }
+  -- the whole point, for each value that an f64 has
+  pub pointBack : (p : DataPoint) → T (fits binary64 (p .value)) → pointOf (storedOf p) ≡ p
+
+-- `alike`
+pub record Alike : Type 0 where
+  -- a point and itself, a NaN too
+  pub self : (p : DataPoint) → sameOf p p ≡ true
+  -- any two NaNs at one time
+  pub nans : (p q : DataPoint) → p .time ≡ q .time → isNan (p .value) ≡ true → isNan (q .value) ≡ true → sameOf p q ≡ true
+
+-- `one-outcome`: what a call states of a point, field by field, is all of it; the other calls state their whole answer
+pub record OneOutcome : Type 0 where
+  pub point : (p q : DataPoint) → p .time ≡ q .time → p .value ≡ q .value → p ≡ q
