@@ -27,7 +27,7 @@ impl DataPoint {
     pub fn new(time: u64, value: f64) -> Self
         ensures { λ r. ⌜ (r .time ≡ time) × (r .value ≡ value) ⌝ }
     {
-        DataPoint { time, value }
+        Self { time, value }
     }
 
     pub fn get_time(self) -> u64

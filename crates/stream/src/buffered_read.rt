@@ -140,10 +140,8 @@ impl BufferedReader {
     {
         let f = self.read_bits(buf, num);
         let answer = f.answer;
-        BitsRead {
-            answer,
-            reader: self,
-        }
+        let reader = self;
+        BitsRead { answer, reader }
     }
 }
 
