@@ -5,22 +5,15 @@ use mathlib.Core.List.{List, _++_}
 use Prim.Native.Nat.{ℕ, zero, suc, _+_, _*_, _%_, _^_, _≤_, _<_}
 use native.Mathlib.Nat.{mod-lt, add-assoc, min-eq-left, min-le-left}
 use native.Mathlib.Omega.{arith}
-use borrow.Author.Tests.{le-ltb}
 use lib.ListN.{length, length-append}
 use lib.Pow.{pow-pos}
 use Rattle.stream.specs.Bits.{bitsOf, bits, edge, field, replaced}
-use Rattle.stream.specs.Refusals.{when, orElse}
-use Rattle.stream.specs.Calls.{limit, Told, refused, width, fieldFault, writeBy, writeOf, readBy, readOf, readBack}
+use Rattle.stream.specs.Calls.{Told, refused, width, fieldFault, writeBy, writeOf, readBy, readOf, readBack}
 use Rattle.stream.specs.Promises.{WriteLeaves, WriteCalls}
 use Rattle.stream.proofs.Numbers.{length-bitsOf, value-bitsOf, bitsOf-join, bitsOf-mod}
 use Rattle.stream.proofs.Bytes.{length-bits, bits-inj}
 use Rattle.stream.proofs.Writes.{replaced-append, length-replaced, writes-leave}
-use Rattle.stream.proofs.Outcomes.{fits}
-
--- a field that lies in a buffer within the limit has no fault
-pub no-fault : (short len p n : ℕ) → len ≤ limit → p + n ≤ 8 * len → fieldFault short len p n ≡ 0
-unfolding fieldFault when orElse
-no-fault short len p n h k = simp (le-ltb limit len h, le-ltb (8 * len) p (omega arith), le-ltb (8 * len) (p + n) k)
+use Rattle.stream.proofs.Outcomes.{field-faults, fits}
 
 -- the same bits at q, the same answer
 same-read : (l m : List ℕ) (q k : ℕ) → length m ≡ length l → field (bits m) q (width k) ≡ field (bits l) q (width k)
@@ -56,7 +49,7 @@ module _ (l m : List ℕ) (p x num : ℕ) (none : 0 ≡ fieldFault 1 (length l) 
   unfolding readOf readBy readBack
   read-back =
       let there = rw (length-bitsOf (width num) x) at (writes-leave (bits l) p (bitsOf (width num) x) starts .back) in
-      rw (no-fault 7 (length m) p (width num) (rw same-size (fits 1 _ _ _ (omega arith) none .0)) (rw same-size within), e, there, value-bitsOf (width num) x)
+      rw (field-faults 7 (length m) p (width num) .there (rw same-size (fits 1 _ _ _ (omega arith) none .0)) (rw same-size within), e, there, value-bitsOf (width num) x)
 
   -- two numbers' bits in one number
   both-bits : (y k : ℕ) → bitsOf (num + k) (x * 2 ^ k + y % 2 ^ k) ≡ bitsOf num x ++ bitsOf k y
@@ -71,7 +64,7 @@ module _ (l m : List ℕ) (p x num : ℕ) (none : 0 ≡ fieldFault 1 (length l) 
       let b : width k ≡ k = min-eq-left (omega arith) in
       let c : width (num + k) ≡ num + k = min-eq-left h in
       let room = fits 1 _ _ _ (omega arith) (sym free) in
-      let here : fieldFault 1 (length m) (p + num) k ≡ 0 = no-fault 1 (length m) (p + num) k (rw same-size (room .0)) (rw same-size (omega arith)) in
+      let here : fieldFault 1 (length m) (p + num) k ≡ 0 = field-faults 1 (length m) (p + num) k .there (rw same-size (room .0)) (rw same-size (omega arith)) in
       rw (b, c, here, free)
       (joined (bits l) (bits m) p (p + num) (bitsOf num x) (bitsOf k y) _ (rw a at e) starts (rw (length-bitsOf num x)) (both-bits y k))
 
@@ -112,6 +105,6 @@ write-calls l m p x num q t hl hm e =
           (λ some. ap (λ (z : List ℕ). readOf z q k) (same some));
       two = λ y k h free.
           let room = fits 1 _ _ _ (omega arith) (sym free) in
-          let none : 0 ≡ fieldFault 1 (length l) p (width num) = sym (no-fault 1 (length l) p (width num) (room .0) (omega (arith, room .1, min-le-left num 64))) in
+          let none : 0 ≡ fieldFault 1 (length l) p (width num) = sym (field-faults 1 (length l) p (width num) .there (room .0) (omega (arith, room .1, min-le-left num 64))) in
           two-writes l m p x num none (done none) y k h free;
     }

@@ -4,12 +4,12 @@ use mathlib.Core.Bool.{Bool, true, false}
 use mathlib.Core.List.{List, [], _∷_}
 use Prim.Native.Nat.{ℕ, zero, suc, _+_, _-_, _*_, _^_, _≤_, _<_}
 use native.Mathlib.Omega.{arith}
-use borrow.Author.Tests.{ltb-false}
+use borrow.Author.Tests.{ltb-false, lt-ltb, le-ltb}
 use lib.ListN.{length, getD}
 use Rattle.stream.specs.Bits.{bitsOf, valueOf, bits, field, replaced}
 use Rattle.stream.specs.Refusals.{numberOf, when, orElse}
-use Rattle.stream.specs.Calls.{limit, Told, given, refused, tellBits, width, fieldFault, writeBy, writeOf, readBy, readOf, peekOf}
-use Rattle.stream.specs.Promises.{Tells}
+use Rattle.stream.specs.Calls.{limit, Told, given, refused, tellBits, width, fieldFault, writeBy, writeOf, readBy, readOf, peekOf, placeBy, inBitsOf}
+use Rattle.stream.specs.Promises.{FieldFaults, Tells}
 use Rattle.stream.specs.declared.refusal.Refusal.{Refusal}
 use Rattle.stream.specs.declared.refusal.Refusal.the-variants.{NoRoom, TimeFalls, FirstDelta, DodRange, TooLong, NoStart, CutShort, BadEnd, BadWindow, ReadTimeFalls, ReadTimePasses, Closed, NoFit}
 use Rattle.stream.specs.declared.buffered_read.BitsAnswer.{BitsAnswer}
@@ -32,6 +32,17 @@ pub not-when : (b : Bool) (r : ℕ) → 0 < r → 0 ≡ when b r → b ≡ false
 unfolding when
 not-when true r h e = absurd (omega arith)
 not-when false r h e = refl
+
+-- ---- the faults of a field
+
+pub field-faults : FieldFaults
+unfolding fieldFault when orElse
+field-faults short len p n = record {
+  tooLong = λ a. simp (lt-ltb limit len a);
+  noFit = λ a b. simp (le-ltb limit len a, lt-ltb (8 * len) p b);
+  runsPast = λ a b d. simp (le-ltb limit len a, le-ltb (8 * len) p b, lt-ltb (8 * len) (p + n) d);
+  there = λ a d. simp (le-ltb limit len a, le-ltb (8 * len) p (omega arith), le-ltb (8 * len) (p + n) d);
+}
 
 -- a field with no fault lies in its buffer, which is within the limit
 pub fits : (short len p n : ℕ) → 0 < short → 0 ≡ fieldFault short len p n → (len ≤ limit) × (p + n ≤ 8 * len)
@@ -73,6 +84,16 @@ unfolding refusalAt
 number-pos r =
     positive (numberOf r)
     (λ z. let one : numberOf r ≡ 1 = ap numberOf (sym (at-number r) ∙ ap refusalAt z) in absurd (omega arith))
+
+-- ---- the place behind some bytes
+
+pub place-there : (n : ℕ) → n ≤ limit → inBitsOf n ≡ given (8 * n ∷ [])
+unfolding inBitsOf placeBy when
+place-there n h = simp (le-ltb limit n h)
+
+pub place-beyond : (n : ℕ) → limit < n → inBitsOf n ≡ refused 5
+unfolding inBitsOf placeBy when
+place-beyond n h = simp (lt-ltb limit n h)
 
 -- ---- a write
 

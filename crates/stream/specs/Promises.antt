@@ -6,7 +6,7 @@ use Prim.Native.Nat.{ℕ, _+_, _*_, _/_, _%_, _^_, _≤_, _<_}
 use lib.ListN.{length, take, drop, getD, replicate}
 use Rattle.stream.specs.Bits.{bitsOf, valueOf, bits, edge, spare, field, replaced}
 use Rattle.stream.specs.Refusals.{numberOf}
-use Rattle.stream.specs.Calls.{Told, bitNumber, tellWrite, tellBit, tellByte, tellBits, tellInBits, width, fieldFault, writeOf, readOf, readBack}
+use Rattle.stream.specs.Calls.{limit, Told, bitNumber, tellWrite, tellBit, tellByte, tellBits, tellInBits, width, fieldFault, writeOf, readOf, readBack}
 use Rattle.stream.specs.declared.Bit.{Bit}
 use Rattle.stream.specs.declared.refusal.Refusal.{Refusal}
 use Rattle.stream.specs.declared.position.BitPos.{BitPos}
@@ -63,6 +63,16 @@ abbrev pub WritesLeave : Type 0
 WritesLeave = (bs : List Bool) (p : ℕ) (f : List Bool) → p ≤ length bs → WriteLeaves bs p f
 
 -- ---- the calls
+
+-- `field-faults`: the refusal of n bits at p in len bytes, by the first rule that holds
+pub record FieldFault (short len p n : ℕ) : Type 0 where
+  pub tooLong : limit < len → fieldFault short len p n ≡ 5
+  pub noFit : len ≤ limit → 8 * len < p → fieldFault short len p n ≡ 13
+  pub runsPast : len ≤ limit → p ≤ 8 * len → 8 * len < p + n → fieldFault short len p n ≡ short
+  pub there : len ≤ limit → p + n ≤ 8 * len → fieldFault short len p n ≡ 0
+
+abbrev pub FieldFaults : Type 0
+FieldFaults = (short len p n : ℕ) → FieldFault short len p n
 
 -- `write-call`: after a write of the num low bits of x at p into the bytes l, which has left the bytes m
 pub record WriteCall (l m : List ℕ) (p x num : ℕ) : Type 0 where

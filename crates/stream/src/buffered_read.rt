@@ -126,7 +126,8 @@ impl BufferedReader {
             }
             Fit::Whole => {
                 let v = get_field(buf, p, n);
-                let at = BitPos(p + n);
+                let end = p + n;
+                let at = BitPos(end);
                 let reader = BufferedReader { at };
                 let answer = BitsAnswer::Bits(v);
                 BitsRead { answer, reader }
@@ -134,13 +135,14 @@ impl BufferedReader {
         }
     }
 
-    // What read_bits would answer; the reader stays.
+    // What read_bits would answer; the reader stays. As in the Rust, the place is set again after a read.
     pub fn peak_bits(self, buf: &[u8], num: u32) -> BitsRead
         ensures { λ r. ⌜ (tellBits (r .answer), r .reader .at .0) ≡ peekOf (now (buf .entry)) (self .at .0) num ⌝ }
     {
         let f = self.read_bits(buf, num);
         let answer = f.answer;
-        let reader = self;
+        let at = self.at;
+        let reader = BufferedReader { at };
         BitsRead { answer, reader }
     }
 }

@@ -80,7 +80,8 @@ impl BufferedWriter {
             }
             Fit::Whole => {
                 put_field(buf, p, value, n);
-                let at = BitPos(p + n);
+                let end = p + n;
+                let at = BitPos(end);
                 let writer = BufferedWriter { at };
                 let answer = WriteAnswer::Done;
                 Written { answer, writer }

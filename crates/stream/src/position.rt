@@ -65,6 +65,7 @@ impl ByteCount {
         if LIMIT < n {
             return InBits::Refused(Refusal::TooLong);
         }
-        InBits::At(BitPos(8 * n))
+        let end = 8 * n;
+        InBits::At(BitPos(end))
     }
 }

@@ -7,7 +7,7 @@ read-bits-requires : tie.Need-read-bits-requires
 read-bits-requires c κs = search needs
 
 returns : tie.Need-returns
-returns c = peeked _ _ _ _ _ (c .read-bits .ensures)
+returns c = peeked _ _ _ _ _ (c .before .read-bits .ensures)
 
 pub peak-bits-spec : {M : Type 1} → statement M
 peak-bits-spec = tie.close (tie.spec read-bits-requires returns)

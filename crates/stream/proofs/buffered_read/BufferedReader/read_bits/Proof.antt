@@ -29,8 +29,8 @@ get-field-requires c κs =
     let k = fits 7 _ _ _ (omega arith) (whole c) in
     (k .0, (omega arith, k .1))
 
-add-t16 : tie.Need-add-t16
-add-t16 c =
+add-end : tie.Need-add-end
+add-end c =
     let k = fits 7 _ _ _ (omega arith) (whole (c .before)) in
     omega arith
 
@@ -51,6 +51,6 @@ read-bits-spec =
     enum-known-f
     enum-told
     get-field-requires
-    add-t16
+    add-end
     returns
     returns-2)

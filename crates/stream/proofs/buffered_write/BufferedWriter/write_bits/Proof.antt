@@ -29,8 +29,8 @@ put-field-requires c κs =
     let k = fits 1 _ _ _ (omega arith) (whole (c .before)) in
     (k .0, (omega arith, k .1))
 
-add-t19 : tie.Need-add-t19
-add-t19 c =
+add-end : tie.Need-add-end
+add-end c =
     let k = fits 1 _ _ _ (omega arith) (whole (c .before .before .before .before)) in
     omega arith
 
@@ -56,7 +56,7 @@ write-bits-spec =
     enum-known-f
     enum-told
     put-field-requires
-    add-t19
+    add-end
     returns
     same-length
     returns-2)

@@ -1,20 +1,18 @@
 use borrow.Author.Needs.{needs}
-use borrow.Author.Tests.{lt-ltb, le-ltb}
-use Rattle.stream.specs.Refusals.{when}
-use Rattle.stream.specs.Calls.{placeBy, inBitsOf}
+use mathlib.Core.Path.{sym}
+use native.Mathlib.Omega.{arith}
+use Rattle.stream.proofs.Outcomes.{place-beyond, place-there}
 use Rattle.stream.proofs.position.ByteCount.to_bits.Statement.{statement}
 use Rattle.stream.proofs.position.ByteCount.to_bits.Tie as tie
 
 returns : tie.Need-returns
-unfolding when placeBy inBitsOf
-returns c = simp (lt-ltb _ _ (c .if1 .taken))
+returns c = sym (place-beyond _ (omega arith))
 
-mul-t5 : tie.Need-mul-t5
-mul-t5 c = search needs
+mul-end : tie.Need-mul-end
+mul-end c = search needs
 
 returns-2 : tie.Need-returns-2
-unfolding when placeBy inBitsOf
-returns-2 c = simp (le-ltb _ _ (c .if1 .left))
+returns-2 c = sym (place-there _ (omega arith))
 
 pub to-bits-spec : {M : Type 1} → statement M
-to-bits-spec = tie.close (tie.spec returns mul-t5 returns-2)
+to-bits-spec = tie.close (tie.spec returns mul-end returns-2)
