@@ -6,7 +6,9 @@ ghost use Rattle.stream.specs.Calls.{bitNumber};
 pub mod buffered_read;
 pub mod buffered_write;
 mod field;
+mod get;
 pub mod position;
+mod put;
 pub mod refusal;
 
 pub use buffered_read::BufferedReader;

@@ -2,8 +2,8 @@ use borrow.Author.Needs.{needs}
 use native.Mathlib.Omega.{arith}
 use Rattle.stream.proofs.Bytes.{length-bits}
 use Rattle.stream.proofs.Taking.{ahead-some}
-use Rattle.stream.proofs.buffered_read.get_field.Statement.{statement}
-use Rattle.stream.proofs.buffered_read.get_field.Tie as tie
+use Rattle.stream.proofs.get.get_field.Statement.{statement}
+use Rattle.stream.proofs.get.get_field.Tie as tie
 
 add-if2 : tie.Need-add-if2
 add-if2 c = search needs

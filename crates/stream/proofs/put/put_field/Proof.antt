@@ -6,8 +6,8 @@ use lib.ListN.{length}
 use Rattle.stream.specs.Bits.{bitsOf, bits, replaced}
 use Rattle.stream.proofs.Bytes.{length-bits}
 use Rattle.stream.proofs.Placing.{none-put, more-put, all-put}
-use Rattle.stream.proofs.buffered_write.put_field.Statement.{statement}
-use Rattle.stream.proofs.buffered_write.put_field.Tie as tie
+use Rattle.stream.proofs.put.put_field.Statement.{statement}
+use Rattle.stream.proofs.put.put_field.Tie as tie
 
 abbrev Inv-loop : tie.InvT-loop
 Inv-loop buf₀ at value n left₀ p₀ buf left p =

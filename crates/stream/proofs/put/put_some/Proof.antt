@@ -1,6 +1,6 @@
 use borrow.Author.Needs.{needs}
-use Rattle.stream.proofs.buffered_write.put_some.Statement.{statement}
-use Rattle.stream.proofs.buffered_write.put_some.Tie as tie
+use Rattle.stream.proofs.put.put_some.Statement.{statement}
+use Rattle.stream.proofs.put.put_some.Tie as tie
 
 room-requires : tie.Need-room-requires
 room-requires c κs = search needs

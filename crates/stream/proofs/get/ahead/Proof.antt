@@ -2,8 +2,8 @@ use borrow.Author.Needs.{needs}
 use native.Mathlib.Omega.{arith}
 use Rattle.stream.proofs.Bytes.{length-bits}
 use Rattle.stream.proofs.Taking.{ahead-fits, ahead-sum}
-use Rattle.stream.proofs.buffered_read.ahead.Statement.{statement}
-use Rattle.stream.proofs.buffered_read.ahead.Tie as tie
+use Rattle.stream.proofs.get.ahead.Statement.{statement}
+use Rattle.stream.proofs.get.ahead.Tie as tie
 
 word-requires : tie.Need-word-requires
 word-requires c κs = search needs

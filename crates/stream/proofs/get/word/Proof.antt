@@ -1,8 +1,8 @@
 use borrow.Author.Needs.{needs}
 use native.Mathlib.Omega.{arith}
 use Rattle.stream.proofs.Taking.{none-read}
-use Rattle.stream.proofs.buffered_read.word.Statement.{statement}
-use Rattle.stream.proofs.buffered_read.word.Tie as tie
+use Rattle.stream.proofs.get.word.Statement.{statement}
+use Rattle.stream.proofs.get.word.Tie as tie
 
 next-byte-requires : tie.Need-next-byte-requires
 next-byte-requires c κs = (search needs, (search needs, none-read _ _ _ (omega arith)))

@@ -5,8 +5,8 @@ use native.Mathlib.Omega.{arith}
 use Rattle.stream.specs.Bits.{valueOf, bits, field}
 use Rattle.stream.proofs.Bytes.{length-bits}
 use Rattle.stream.proofs.Taking.{none-read, has-room, more-read, all-read}
-use Rattle.stream.proofs.buffered_read.get_bytes.Statement.{statement}
-use Rattle.stream.proofs.buffered_read.get_bytes.Tie as tie
+use Rattle.stream.proofs.get.get_bytes.Statement.{statement}
+use Rattle.stream.proofs.get.get_bytes.Tie as tie
 
 abbrev Inv-loop : tie.InvT-loop
 Inv-loop buf at n left₀ p₀ v₀ left p v =

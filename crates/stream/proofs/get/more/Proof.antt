@@ -1,8 +1,8 @@
 use borrow.Author.Needs.{needs}
 use native.Mathlib.Omega.{arith}
 use Rattle.stream.proofs.Taking.{shl-sum, more-value}
-use Rattle.stream.proofs.buffered_read.more.Statement.{statement}
-use Rattle.stream.proofs.buffered_read.more.Tie as tie
+use Rattle.stream.proofs.get.more.Statement.{statement}
+use Rattle.stream.proofs.get.more.Tie as tie
 
 shl-result : tie.Need-shl-result
 shl-result c = search needs

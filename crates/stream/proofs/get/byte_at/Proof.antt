@@ -1,8 +1,8 @@
 use borrow.Author.Needs.{needs}
 use native.Mathlib.Omega.{arith}
 use Rattle.stream.proofs.Taking.{byte-value}
-use Rattle.stream.proofs.buffered_read.byte_at.Statement.{statement}
-use Rattle.stream.proofs.buffered_read.byte_at.Tie as tie
+use Rattle.stream.proofs.get.byte_at.Statement.{statement}
+use Rattle.stream.proofs.get.byte_at.Tie as tie
 
 shared-slice-read-wide : tie.Need-shared-slice-read-wide
 shared-slice-read-wide c = search needs

@@ -2,8 +2,8 @@ use borrow.Author.Needs.{needs}
 use native.Mathlib.Omega.{arith}
 use Rattle.stream.proofs.Bytes.{length-bits}
 use Rattle.stream.proofs.Taking.{word-room, word-fits, word-more}
-use Rattle.stream.proofs.buffered_read.next_byte.Statement.{statement}
-use Rattle.stream.proofs.buffered_read.next_byte.Tie as tie
+use Rattle.stream.proofs.get.next_byte.Statement.{statement}
+use Rattle.stream.proofs.get.next_byte.Tie as tie
 
 mul-result : tie.Need-mul-result
 mul-result c = record { fits = word-room _ _ _ _ (c .before .pre .1 .1) (omega arith) }

@@ -1,8 +1,8 @@
 use borrow.Author.Needs.{needs}
 use native.Mathlib.Omega.{arith}
 use Rattle.stream.proofs.Placing.{chunk-put}
-use Rattle.stream.proofs.buffered_write.put_chunk.Statement.{statement}
-use Rattle.stream.proofs.buffered_write.put_chunk.Tie as tie
+use Rattle.stream.proofs.put.put_chunk.Statement.{statement}
+use Rattle.stream.proofs.put.put_chunk.Tie as tie
 
 slice-read-placed : tie.Need-slice-read-placed
 slice-read-placed c = search needs

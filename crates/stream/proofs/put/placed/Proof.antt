@@ -2,8 +2,8 @@ use borrow.Author.Needs.{needs}
 use native.Mathlib.Omega.{arith}
 use Prim.Native.Nat.{_<_}
 use Rattle.stream.proofs.Placing.{placed-byte, placed-bits}
-use Rattle.stream.proofs.buffered_write.placed.Statement.{statement}
-use Rattle.stream.proofs.buffered_write.placed.Tie as tie
+use Rattle.stream.proofs.put.placed.Statement.{statement}
+use Rattle.stream.proofs.put.placed.Tie as tie
 
 small : (c : tie.Start) → c .args .old < 256
 small c = search needs
