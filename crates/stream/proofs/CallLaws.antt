@@ -1,8 +1,8 @@
 -- What a write leaves for later reads and writes, as calls.
-use mathlib.Core.Path.{_≡_, refl, sym, ap, _∙_}
+use mathlib.Core.Path.{_≡_, sym, ap, _∙_}
 use mathlib.Core.Bool.{Bool}
 use mathlib.Core.List.{List, _++_}
-use Prim.Native.Nat.{ℕ, zero, suc, _+_, _*_, _%_, _^_, _≤_, _<_}
+use Prim.Native.Nat.{ℕ, _+_, _*_, _%_, _^_, _≤_, _<_}
 use native.Mathlib.Nat.{mod-lt, add-assoc, min-eq-left, min-le-left}
 use native.Mathlib.Omega.{arith}
 use lib.ListN.{length, length-append}
@@ -13,7 +13,7 @@ use Rattle.stream.specs.Promises.{WriteLeaves, WriteCalls}
 use Rattle.stream.proofs.Numbers.{length-bitsOf, value-bitsOf, bitsOf-join, bitsOf-mod}
 use Rattle.stream.proofs.Bytes.{length-bits, bits-inj}
 use Rattle.stream.proofs.Writes.{replaced-append, length-replaced, writes-leave}
-use Rattle.stream.proofs.Outcomes.{field-faults, fits}
+use Rattle.stream.proofs.Outcomes.{either, field-faults, fits, write-refused}
 
 -- the same bits at q, the same answer
 same-read : (l m : List ℕ) (q k : ℕ) → length m ≡ length l → field (bits m) q (width k) ≡ field (bits l) q (width k)
@@ -68,43 +68,33 @@ module _ (l m : List ℕ) (p x num : ℕ) (none : 0 ≡ fieldFault 1 (length l) 
       rw (b, c, here, free)
       (joined (bits l) (bits m) p (p + num) (bitsOf num x) (bitsOf k y) _ (rw a at e) starts (rw (length-bitsOf num x)) (both-bits y k))
 
--- a refused write has left the bits as they were
+-- the bits after a write: as they were where it was refused, with its field where it was not
 left : (k q p : ℕ) (t : Told) (bs ms f : List Bool) → 0 < k → (t, q, ms) ≡ writeBy k bs p f → ms ≡ bs
-unfolding writeBy
-left zero q p t bs ms f h e = absurd (omega arith)
-left (suc k) q p t bs ms f h e = ap (λ (o : Told × ℕ × List Bool). o .2) e
+left k q p t bs ms f some e = ap (λ (o : Told × ℕ × List Bool). o .2) (e ∙ write-refused k bs p f some)
 
--- an accepted one has put its field
 put : (k q p : ℕ) (t : Told) (bs ms f : List Bool) → 0 ≡ k → (t, q, ms) ≡ writeBy k bs p f → ms ≡ replaced bs p f
 unfolding writeBy
-put zero q p t bs ms f h e = ap (λ (o : Told × ℕ × List Bool). o .2) e
-put (suc k) q p t bs ms f h e = absurd (omega arith)
-
-either : {A : Type 0} (k : ℕ) → (0 ≡ k → A) → (0 < k → A) → A
-either zero none some = none refl
-either (suc k) none some = some (omega arith)
+put k q p t bs ms f none e = ap (λ (o : Told × ℕ × List Bool). o .2) (rw (← none) at e)
 
 pub write-calls : WriteCalls
 unfolding writeOf
 write-calls l m p x num q t hl hm e =
+    let fault = fieldFault 1 (length l) p (width num) in
     let f = bitsOf (width num) x in
-    let same : 0 < fieldFault 1 (length l) p (width num) → m ≡ l = λ some. bits-inj m l hm hl (left _ q p t (bits l) (bits m) f some e) in
-    let done : 0 ≡ fieldFault 1 (length l) p (width num) → bits m ≡ replaced (bits l) p f = λ none. put _ q p t (bits l) (bits m) f none e in
-    let leaves : (none : 0 ≡ fieldFault 1 (length l) p (width num)) → WriteLeaves (bits l) p f =
-    λ none. writes-leave (bits l) p f (starts l m p x num none (done none))
+    let same : 0 < fault → m ≡ l = λ some. bits-inj m l hm hl (left _ q p t (bits l) (bits m) f some e) in
+    let done : 0 ≡ fault → bits m ≡ replaced (bits l) p f = λ none. put _ q p t (bits l) (bits m) f none e in
+    let leaves : 0 ≡ fault → WriteLeaves (bits l) p f = λ none. writes-leave (bits l) p f (starts l m p x num none (done none)) in
+    let elsewhere : (q k : ℕ) → (0 ≡ fault → field (replaced (bits l) p f) q (width k) ≡ field (bits l) q (width k)) → readOf m q k ≡ readOf l q k =
+    λ q k h. either fault (λ none. untouched l m p x num none (done none) q k (h none)) (λ some. ap (λ (z : List ℕ). readOf z q k) (same some))
     in
     let edge-at : edge (p + length f) ≡ edge (p + width num) = ap (λ (n : ℕ). edge (p + n)) (length-bitsOf (width num) x) in
     record {
       kept = same;
       back = λ none. read-back l m p x num (sym none) (done (sym none));
-      before = λ q k h. either _
-          (λ none. untouched l m p x num none (done none) q k (leaves none .before q (width k) h))
-          (λ some. ap (λ (z : List ℕ). readOf z q k) (same some));
-      after = λ q k h. either _
-          (λ none. untouched l m p x num none (done none) q k (leaves none .after q (width k) (rw edge-at h)))
-          (λ some. ap (λ (z : List ℕ). readOf z q k) (same some));
+      before = λ q k h. elsewhere q k (λ none. leaves none .before q (width k) h);
+      after = λ q k h. elsewhere q k (λ none. leaves none .after q (width k) (rw edge-at h));
       two = λ y k h free.
           let room = fits 1 _ _ _ (omega arith) (sym free) in
-          let none : 0 ≡ fieldFault 1 (length l) p (width num) = sym (field-faults 1 (length l) p (width num) .there (room .0) (omega (arith, room .1, min-le-left num 64))) in
+          let none : 0 ≡ fault = sym (field-faults 1 (length l) p (width num) .there (room .0) (omega (arith, room .1, min-le-left num 64))) in
           two-writes l m p x num none (done none) y k h free;
     }

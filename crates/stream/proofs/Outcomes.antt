@@ -18,9 +18,10 @@ use Rattle.stream.proofs.Taking.{field-lt}
 
 -- ---- rules in order
 
-positive : (k : ℕ) → ¬ (k ≡ 0) → 0 < k
-positive zero h = absurd (h refl)
-positive (suc k) h = omega arith
+-- there is no refusal, or there is one
+pub either : {A : Type 0} (k : ℕ) → (0 ≡ k → A) → (0 < k → A) → A
+either zero none some = none refl
+either (suc k) none some = some (omega arith)
 
 -- where no rule holds, neither of two does
 pub none-holds : (a b : ℕ) → 0 ≡ orElse a b → (0 ≡ a) × (0 ≡ b)
@@ -82,8 +83,9 @@ by-number r s e = sym (at-number r) ∙ ap refusalAt e ∙ at-number s
 pub number-pos : (r : Refusal) → 0 < numberOf r
 unfolding refusalAt
 number-pos r =
-    positive (numberOf r)
-    (λ z. let one : numberOf r ≡ 1 = ap numberOf (sym (at-number r) ∙ ap refusalAt z) in absurd (omega arith))
+    either (numberOf r)
+    (λ none. let one : numberOf r ≡ 1 = ap numberOf (sym (at-number r) ∙ ap refusalAt (sym none)) in absurd (omega arith))
+    (λ some. some)
 
 -- ---- the place behind some bytes
 
@@ -97,7 +99,7 @@ place-beyond n h = simp (lt-ltb limit n h)
 
 -- ---- a write
 
-write-refused : (k : ℕ) (bs : List Bool) (p : ℕ) (f : List Bool) → 0 < k → writeBy k bs p f ≡ (refused k, p, bs)
+pub write-refused : (k : ℕ) (bs : List Bool) (p : ℕ) (f : List Bool) → 0 < k → writeBy k bs p f ≡ (refused k, p, bs)
 unfolding writeBy
 write-refused zero bs p f h = absurd (omega arith)
 write-refused (suc k) bs p f h = refl
