@@ -17,7 +17,7 @@ pick true a b = a
 pick false a b = b
 
 -- the order of two points is that of their times
-abbrev pub timeOrder : ℕ → ℕ → Ordering
+unfoldable pub timeOrder : ℕ → ℕ → Ordering
 timeOrder x y = pick (ltb x y) Less (pick (eqb x y) Equal Greater)
 
 -- a point with its value's bits; lib.Ieee writes its one NaN as 0x7ff8000000000000

@@ -1,12 +1,13 @@
 -- What is promised of points.
 use mathlib.Core.Path.{_≡_}
 use mathlib.Core.Bool.{true, false}
-use Prim.Native.Nat.{_^_, _<_}
+use Prim.Native.Nat.{ℕ, _^_, _<_}
 use lib.Dec.{T}
 use lib.Ieee.{fits, isNan, nanBits, binary64}
-use Rattle.point.specs.Points.{sameOf, storedOf, pointOf}
+use Rattle.point.specs.Points.{sameOf, timeOrder, storedOf, pointOf}
 use Rattle.point.specs.declared.DataPoint.{DataPoint}
 use Rattle.point.specs.declared.Stored.{Stored}
+use Rattle.point.specs.declared.Ordering.the-variants.{Less, Equal, Greater}
 
 -- `there-and-back`: what the two forms keep
 pub record ThereAndBack : Type 0 where
@@ -23,6 +24,12 @@ pub record Alike : Type 0 where
   pub self : (p : DataPoint) → sameOf p p ≡ true
   -- any two NaNs at one time
   pub nans : (p q : DataPoint) → p .time ≡ q .time → isNan (p .value) ≡ true → isNan (q .value) ≡ true → sameOf p q ≡ true
+
+-- `by-time`: the order looks at the times alone
+pub record ByTime (x y : ℕ) : Type 0 where
+  pub less : x < y → timeOrder x y ≡ Less
+  pub equal : x ≡ y → timeOrder x y ≡ Equal
+  pub greater : y < x → timeOrder x y ≡ Greater
 
 -- `one-outcome`: what a call states of a point, field by field, is all of it; the other calls state their whole answer
 pub record OneOutcome : Type 0 where

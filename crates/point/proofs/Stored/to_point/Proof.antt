@@ -1,5 +1,6 @@
 use borrow.Author.Needs.{needs}
 use mathlib.Core.Path.{sym}
+use native.Mathlib.Omega.{arith}
 use lib.Ieee.{ofBits, div}
 use Rattle.point.proofs.Floats.{above, not-above}
 use Rattle.point.proofs.Stored.to_point.Statement.{statement}
@@ -7,10 +8,10 @@ use Rattle.point.proofs.Stored.to_point.Tie as tie
 
 returns : tie.Need-returns
 unfolding div ofBits
-returns c = λ i. record { time = c .before .args .self .time; value = sym (above _ (c .if1 .taken)) i }
+returns c = λ i. record { time = c .before .args .self .time; value = sym (above (c .before .args .self .bits) (omega arith)) i }
 
 float-from-bits-value : tie.Need-float-from-bits-value
-float-from-bits-value c = rw (not-above _ (c .if1 .left)) tt
+float-from-bits-value c = rw (not-above (c .before .args .self .bits) (omega arith)) tt
 
 returns-2 : tie.Need-returns-2
 returns-2 c = search needs
