@@ -1,7 +1,7 @@
 // What writing and reading a field share: its width, whether it fits, and its part within one byte.
 
 ghost use mathlib.Core.Path.{_≡_};
-ghost use Prim.Native.Nat.{_+_, _*_, _/_, _%_, _^_, _≤_, _<_};
+ghost use Prim.Native.Nat.{_+_, _-_, _*_, _/_, _%_, _^_, _≤_, _<_, min};
 ghost use Rattle.stream.specs.Bits.{bitsOf};
 ghost use Rattle.stream.specs.Refusals.{numberOf};
 ghost use Rattle.stream.specs.Calls.{width, fieldFault};
@@ -39,10 +39,10 @@ pub(super) fn fit_of(len: usize, p: usize, n: usize, short: Refusal) -> Fit
     Fit::Whole
 }
 
-// How many of left bits lie in the byte of bit p.
+// How many of left bits lie in the byte of bit p: all that it has room for, so that 64 bits take at most nine turns.
 pub(super) fn room(p: usize, left: usize) -> usize
     requires { ⌜ 0 < left ⌝ }
-    ensures { λ r. ⌜ (0 < r) × (r ≤ left) × (p % 8 + r ≤ 8) ⌝ }
+    ensures { λ r. ⌜ r ≡ min left (8 - p % 8) ⌝ }
 {
     let space = 8 - p % 8;
     if left < space { left } else { space }

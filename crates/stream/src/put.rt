@@ -3,7 +3,7 @@
 ghost use mathlib.Core.Path.{_≡_};
 ghost use mathlib.Core.Bool.{false};
 ghost use mathlib.Core.List.{_++_};
-ghost use Prim.Native.Nat.{_+_, _-_, _*_, _/_, _%_, _^_, _≤_, _<_};
+ghost use Prim.Native.Nat.{_+_, _-_, _*_, _/_, _%_, _^_, _≤_, _<_, min};
 ghost use lib.ListN.{length, take, replicate};
 ghost use Rattle.stream.specs.Bits.{bitsOf, bits, replaced};
 ghost use Rattle.stream.specs.Calls.{limit};
@@ -38,7 +38,7 @@ fn put_some(buf: &mut [u8], p: usize, value: u64, left: usize) -> usize
     requires { ⌜ 0 < left ⌝ }
     requires { ⌜ left ≤ 64 ⌝ }
     requires { ⌜ p + left ≤ 8 * length (now buf) ⌝ }
-    ensures { λ r. ⌜ (0 < r) × (r ≤ left) × (bits (now (buf .exit)) ≡ replaced (bits (now (buf .entry))) p (bitsOf r (value / 2 ^ (left - r)))) ⌝ }
+    ensures { λ r. ⌜ (r ≡ min left (8 - p % 8)) × (bits (now (buf .exit)) ≡ replaced (bits (now (buf .entry))) p (bitsOf r (value / 2 ^ (left - r)))) ⌝ }
 {
     let c = room(p, left);
     put_chunk(buf, p, c, digits(value, left - c, c));

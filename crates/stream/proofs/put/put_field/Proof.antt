@@ -38,7 +38,7 @@ loop-again c =
       search needs,
       omega arith,
       omega arith,
-      more-put _ _ _ _ _ _ _ _ _ (rw length-bits (omega arith)) (omega arith) (omega arith) (loop .inv .1) (loop .inv .3) (c .before .before .put-some .ensures .2),
+      more-put _ _ _ _ _ _ _ _ _ (rw length-bits (omega arith)) (omega arith) (omega arith) (loop .inv .1) (loop .inv .3) (c .before .before .put-some .ensures .1),
     )
 
 same-length : tie.Need-same-length Inv-loop μ-loop

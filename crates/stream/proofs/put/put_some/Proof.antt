@@ -18,7 +18,7 @@ same-length : tie.Need-same-length
 same-length c = search needs
 
 returns : tie.Need-returns
-returns c = (search needs, search needs, rw (c .before .before .before .digits .ensures .1) at (c .before .before .put-chunk .ensures))
+returns c = (search needs, rw (c .before .before .before .digits .ensures .1) at (c .before .before .put-chunk .ensures))
 
 pub put-some-spec : {M : Type 1} → statement M
 put-some-spec =
