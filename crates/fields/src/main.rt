@@ -20,7 +20,7 @@ use stream::position::InBits;
 use stream::refusal::Refusal;
 
 // 20 bytes have 160 bits. A field of n bits fits up to place 160 - n; up to place 95 nine bytes are there, so it comes out of a word.
-const PLACES: [usize; 22] = [
+const PLACES: [usize; 21] = [
     0,
     1,
     3,
@@ -42,10 +42,9 @@ const PLACES: [usize; 22] = [
     154,
     159,
     160,
-    161,
 ];
 
-const WIDTHS: [u32; 8] = [0, 1, 7, 8, 9, 63, 64, 65];
+const WIDTHS: [u32; 10] = [0, 1, 7, 8, 9, 63, 64, 65, 256, 4_294_967_295];
 
 const VALUE: u64 = 0x9e37_79b9_7f4a_7c15;
 
@@ -57,10 +56,14 @@ fn say_number(n: usize) {
     io::print_decimal(STDOUT_FILENO, n as u64);
 }
 
-// The answer " refused R at P".
-fn say_refused(r: Refusal, at: BitPos) {
+fn say_number_of(r: Refusal) {
     say(b" refused ");
     io::print_decimal(STDOUT_FILENO, r.number() as u64);
+}
+
+// The answer " refused R at P".
+fn say_refused(r: Refusal, at: BitPos) {
+    say_number_of(r);
     say_at(at);
 }
 
@@ -206,7 +209,7 @@ fn write_cases(buf: &mut [u8], w: BufferedWriter) {
     bit_case(buf, w, Bit::Zero);
     bit_case(buf, w, Bit::One);
     let mut k: usize = 0;
-    while k < 8 {
+    while k < 10 {
         write_case(buf, w, WIDTHS[k]);
         k += 1;
     }
@@ -219,7 +222,7 @@ fn read_cases(buf: &[u8], r: BufferedReader) {
     say_bit(r.read_bit(buf));
     say(b"\n");
     let mut k: usize = 0;
-    while k < 8 {
+    while k < 10 {
         read_case(buf, r, WIDTHS[k]);
         k += 1;
     }
@@ -234,7 +237,7 @@ fn say_place(text: &[u8], p: usize) {
 // All cases at every place of a buffer.
 fn run(buf: &mut [u8]) {
     let mut k: usize = 0;
-    while k < 22 {
+    while k < 21 {
         let p = PLACES[k];
         say_place(b"to bit ", p);
         let w = writer_at(buf, p);
@@ -264,7 +267,7 @@ fn convert(n: usize) {
     let answer = bytes.to_bits();
     match answer {
         InBits::At(p) => say_at(p),
-        InBits::Refused(r) => say_refused(r, BitPos::new(0)),
+        InBits::Refused(r) => say_number_of(r),
     }
     say(b", ");
     say_number(n);

@@ -8,7 +8,6 @@ use lib.Count.{leadingZeros, trailingZeros}
 use lib.Dec.{ltb}
 use lib.IntN.{ℤ, pos}
 use lib.ListN.{take}
-use Rattle.stream.specs.Bits as stream
 use Rattle.stream.specs.Bits.{odd, digit, bitsOf, valueOf, field}
 use Rattle.layout.specs.declared.Row.{Row}
 use Rattle.layout.specs.Rows.{minus, within, rows, fits, inField, raw, signed}

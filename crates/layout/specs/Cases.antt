@@ -1,11 +1,12 @@
 -- Document 01's marked cases, M1 to M10, the others beside them, and sentences of it that a case shows.
 use mathlib.Core.Path.{_≡_}
-use Prim.Native.Nat.{ℕ, zero, suc, _+_, _-_, _^_}
+use Prim.Native.Nat.{ℕ, zero, _+_, _-_, _^_}
 use mathlib.Core.Bool.{Bool, true, false}
 use mathlib.Core.List.{List, [], _∷_, _++_, map}
 use lib.IntN.{ℤ, pos}
 use lib.ListN.{length, take, replicate}
 use Rattle.stream.specs.Bits as stream
+use Rattle.stream.specs.Refusals.{orElse}
 use Rattle.stream.specs.Bits.{bitsOf, padded, field}
 use Rattle.layout.specs.Rows.{minus, inField}
 use Rattle.layout.specs.Windows.{window}
@@ -37,10 +38,6 @@ pub data Seen : Type 0 where
   told : List Answer → Seen
   torn : (kind : Kind) (first : ℕ) → Seen
   whole : Seen
-
-unfoldable pub orElse : ℕ → ℕ → ℕ
-orElse zero k = k
-orElse (suc n) k = suc n
 
 unfoldable pub firstFault : Progress → List Point → ℕ
 firstFault g [] = 0

@@ -1,23 +1,19 @@
 -- The promises of points.
 use mathlib.Core.Path.{_≡_, refl, sym, ap, _∙_}
-use mathlib.Core.Bool.{Bool, true, false, not, _&&_, _||_}
+use mathlib.Core.Bool.{Bool, true, false, not, _&&_, _||_, or-true}
 use Prim.Native.Nat.{ℕ}
 use lib.Ieee.{eq, isNan, binary64, toBits, ofBits}
 use lib.Ieee.Bits.{ofBits-toBits, toBits-ofBits, nanBits-is}
 use native.Mathlib.Omega.{arith}
 use borrow.Author.Tests.{lt-ltb, le-ltb, eq-eqb, ne-eqb}
 use Rattle.point.specs.Points.{timeOrder}
-use Rattle.point.specs.Promises.{ThereAndBack, Alike, ByTime, OneOutcome}
+use Rattle.point.specs.Promises.{ThereAndBack, Alike, ByTime}
 use Rattle.point.proofs.Floats.{self-eq, is-nan}
 
 -- a value with itself
 or-nan : (b : Bool) → (not b || (b && b)) ≡ true
 or-nan true = refl
 or-nan false = refl
-
-or-true : (b : Bool) → (b || true) ≡ true
-or-true true = refl
-or-true false = refl
 
 pub alike : Alike
 alike = record {
@@ -40,6 +36,3 @@ by-time x y = record {
   equal = λ e. simp (le-ltb x y (omega arith), eq-eqb x y e);
   greater = λ h. simp (le-ltb x y (omega arith), ne-eqb x y (omega arith));
 }
-
-pub one-outcome : OneOutcome
-one-outcome = record { point = λ p q s t. λ i. record { time = s i; value = t i } }

@@ -3,7 +3,7 @@ use mathlib.Core.Path.{_≡_}
 use mathlib.Core.Bool.{Bool, true, false}
 use mathlib.Core.List.{List, [], _∷_, map}
 use Prim.Native.Nat.{ℕ}
-use Rattle.point.specs.Points.{sameOf, timeOrder, storedOf, pointOf}
+use Rattle.point.specs.Points.{sameOf, timeOrder, toStored, toPoint}
 use Rattle.point.specs.declared.Ordering.{Ordering}
 use Rattle.point.specs.declared.Ordering.the-variants.{Less, Equal, Greater}
 
@@ -21,9 +21,9 @@ pub data Seen : Type 0 where
   number : ℕ → Seen
 
 unfoldable pub seen : Case → Seen
-seen (alike t a u b e) = whether (sameOf (pointOf (record { time = t; bits = a })) (pointOf (record { time = u; bits = b })))
+seen (alike t a u b e) = whether (sameOf (toPoint (record { time = t; bits = a })) (toPoint (record { time = u; bits = b })))
 seen (order t u e) = how (timeOrder t u)
-seen (there a e) = number (storedOf (pointOf (record { time = 0; bits = a })) .bits)
+seen (there a e) = number (toStored (toPoint (record { time = 0; bits = a })) .bits)
 
 unfoldable pub expected : Case → Seen
 expected (alike t a u b e) = whether e

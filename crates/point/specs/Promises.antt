@@ -4,7 +4,7 @@ use mathlib.Core.Bool.{true, false}
 use Prim.Native.Nat.{ℕ, _^_, _<_}
 use lib.Dec.{T}
 use lib.Ieee.{fits, isNan, nanBits, binary64}
-use Rattle.point.specs.Points.{sameOf, timeOrder, storedOf, pointOf}
+use Rattle.point.specs.Points.{sameOf, timeOrder, toStored, toPoint}
 use Rattle.point.specs.declared.DataPoint.{DataPoint}
 use Rattle.point.specs.declared.Stored.{Stored}
 use Rattle.point.specs.declared.Ordering.the-variants.{Less, Equal, Greater}
@@ -12,11 +12,11 @@ use Rattle.point.specs.declared.Ordering.the-variants.{Less, Equal, Grea
 -- `there-and-back`: what the two forms keep
 pub record ThereAndBack : Type 0 where
   -- every bit, for each pattern that is no NaN's
-  pub bitsBack : (s : Stored) → s .bits < 2 ^ 64 → nanBits binary64 (s .bits) ≡ false → storedOf (pointOf s) ≡ s
+  pub bitsBack : (s : Stored) → s .bits < 2 ^ 64 → nanBits binary64 (s .bits) ≡ false → toStored (toPoint s) ≡ s
   -- of a NaN's pattern, that it is one
-  pub nanBack : (s : Stored) → nanBits binary64 (s .bits) ≡ true → storedOf (pointOf s) ≡ record { time = s .time; bits = 0x7ff8_0000_0000_0000 }
+  pub nanBack : (s : Stored) → nanBits binary64 (s .bits) ≡ true → toStored (toPoint s) ≡ record { time = s .time; bits = 0x7ff8_0000_0000_0000 }
   -- the whole point, for each value that an f64 has
-  pub pointBack : (p : DataPoint) → T (fits binary64 (p .value)) → pointOf (storedOf p) ≡ p
+  pub pointBack : (p : DataPoint) → T (fits binary64 (p .value)) → toPoint (toStored p) ≡ p
 
 -- `alike`
 pub record Alike : Type 0 where
@@ -30,7 +30,3 @@ pub record ByTime (x y : ℕ) : Type 0 where
   pub less : x < y → timeOrder x y ≡ Less
   pub equal : x ≡ y → timeOrder x y ≡ Equal
   pub greater : y < x → timeOrder x y ≡ Greater
-
--- `one-outcome`: what a call states of a point, field by field, is all of it; the other calls state their whole answer
-pub record OneOutcome : Type 0 where
-  pub point : (p q : DataPoint) → p .time ≡ q .time → p .value ≡ q .value → p ≡ q

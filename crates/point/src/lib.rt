@@ -1,7 +1,7 @@
 // A point of a series: a time and a value. As people handle it, a float; as the codec keeps it, the float's 64 bits.
 
 ghost use mathlib.Core.Path.{_≡_};
-ghost use Rattle.point.specs.Points.{sameOf, timeOrder, storedOf, pointOf};
+ghost use Rattle.point.specs.Points.{newOf, sameOf, timeOrder, toStored, toPoint};
 
 // A time and a value, as in the Rust. Round trips are about `Stored`, since a float here keeps no payload of a NaN.
 pub struct DataPoint {
@@ -25,17 +25,19 @@ pub enum Ordering {
 impl DataPoint {
     // Create a point from a time and a value.
     pub fn new(time: u64, value: f64) -> Self
-        ensures { λ r. ⌜ (r .time ≡ time) × (r .value ≡ value) ⌝ }
+        ensures { λ r. ⌜ r ≡ newOf time value ⌝ }
     {
         Self { time, value }
     }
 
+    // The point's time.
     pub fn get_time(self) -> u64
         ensures { λ r. ⌜ r ≡ self .time ⌝ }
     {
         self.time
     }
 
+    // The point's value.
     pub fn get_value(self) -> f64
         ensures { λ r. ⌜ r ≡ self .value ⌝ }
     {
@@ -78,7 +80,7 @@ impl DataPoint {
 
     // The point with its value's bits. A NaN, whatever its payload was, is written as the one pattern 0x7ff8000000000000.
     pub fn to_stored(self) -> Stored
-        ensures { λ r. ⌜ r ≡ storedOf self ⌝ }
+        ensures { λ r. ⌜ r ≡ toStored self ⌝ }
     {
         let time = self.time;
         let x = self.value;
@@ -96,7 +98,7 @@ impl DataPoint {
 impl Stored {
     // The point with the value that the bits stand for. Any pattern of a NaN gives a NaN.
     pub fn to_point(self) -> DataPoint
-        ensures { λ r. ⌜ r ≡ pointOf self ⌝ }
+        ensures { λ r. ⌜ r ≡ toPoint self ⌝ }
     {
         let time = self.time;
         let b = self.bits;

@@ -1,32 +1,26 @@
 -- What a write leaves for later reads and writes, as calls.
 use mathlib.Core.Path.{_≡_, sym, ap, _∙_}
 use mathlib.Core.Bool.{Bool}
-use mathlib.Core.List.{List, _++_}
+use mathlib.Core.List.{List, [], _∷_, _++_}
 use Prim.Native.Nat.{ℕ, _+_, _*_, _%_, _^_, _≤_, _<_}
 use native.Mathlib.Nat.{mod-lt, add-assoc, min-eq-left, min-le-left}
 use native.Mathlib.Omega.{arith}
-use lib.ListN.{length, length-append}
+use lib.ListN.{length}
 use lib.Pow.{pow-pos}
 use Rattle.stream.specs.Bits.{bitsOf, bits, edge, field, replaced}
-use Rattle.stream.specs.Calls.{Told, refused, width, fieldFault, writeBy, writeOf, readBy, readOf, readBack}
+use Rattle.stream.specs.Refusals.{byFault}
+use Rattle.stream.specs.Calls.{Told, given, width, fieldFault, writeOf, readOf}
 use Rattle.stream.specs.Promises.{WriteLeaves, WriteCalls}
 use Rattle.stream.proofs.Numbers.{length-bitsOf, value-bitsOf, bitsOf-join, bitsOf-mod}
 use Rattle.stream.proofs.Bytes.{length-bits, bits-inj}
 use Rattle.stream.proofs.Writes.{replaced-append, length-replaced, writes-leave}
-use Rattle.stream.proofs.Outcomes.{either, field-faults, fits, write-refused}
+use Rattle.stream.proofs.Outcomes.{either, by-none, by-some, field-faults, fits}
 
 -- the same bits at q, the same answer
 same-read : (l m : List ℕ) (q k : ℕ) → length m ≡ length l → field (bits m) q (width k) ≡ field (bits l) q (width k)
     → readOf m q k ≡ readOf l q k
 unfolding readOf
 same-read l m q k e f = rw (e, f)
-
--- one write behind another is one write of both fields
-joined : (bs ms : List Bool) (p q : ℕ) (f g h : List Bool) → ms ≡ replaced bs p f → p ≤ length bs → q ≡ p + length f → h ≡ f ++ g
-    → writeBy 0 ms q g ≡ writeBy 0 bs p h
-unfolding writeBy
-joined bs ms p q f g h em l eq eh =
-    rw (em, eq, eh, replaced-append bs p f g l, length-append f g, add-assoc p (length f) (length g))
 
 module _ (l m : List ℕ) (p x num : ℕ) (none : 0 ≡ fieldFault 1 (length l) p (width num)) (e : bits m ≡ replaced (bits l) p (bitsOf (width num) x)) where
   within : p + width num ≤ 8 * length l
@@ -45,8 +39,8 @@ module _ (l m : List ℕ) (p x num : ℕ) (none : 0 ≡ fieldFault 1 (length l) 
   untouched : (q k : ℕ) → field (replaced (bits l) p (bitsOf (width num) x)) q (width k) ≡ field (bits l) q (width k) → readOf m q k ≡ readOf l q k
   untouched q k f = same-read l m q k same-size (rw e f)
 
-  read-back : readOf m p num ≡ readBack x num p
-  unfolding readOf readBy readBack
+  read-back : (given (x % 2 ^ width num ∷ []), p + width num) ≡ readOf m p num
+  unfolding readOf byFault
   read-back =
       let there = rw (length-bitsOf (width num) x) at (writes-leave (bits l) p (bitsOf (width num) x) starts .back) in
       rw (field-faults 7 (length m) p (width num) .there (rw same-size (fits 1 _ _ _ (omega arith) none .0)) (rw same-size within), e, there, value-bitsOf (width num) x)
@@ -58,31 +52,24 @@ module _ (l m : List ℕ) (p x num : ℕ) (none : 0 ≡ fieldFault 1 (length l) 
 
   two-writes : (y k : ℕ) → num + k ≤ 64 → fieldFault 1 (length l) p (num + k) ≡ 0
       → writeOf m (p + num) y k ≡ writeOf l p (x * 2 ^ k + y % 2 ^ k) (num + k)
-  unfolding writeOf
+  unfolding writeOf byFault
   two-writes y k h free =
       let a : width num ≡ num = min-eq-left (omega arith) in
       let b : width k ≡ k = min-eq-left (omega arith) in
       let c : width (num + k) ≡ num + k = min-eq-left h in
       let room = fits 1 _ _ _ (omega arith) (sym free) in
       let here : fieldFault 1 (length m) (p + num) k ≡ 0 = field-faults 1 (length m) (p + num) k .there (rw same-size (room .0)) (rw same-size (omega arith)) in
-      rw (b, c, here, free)
-      (joined (bits l) (bits m) p (p + num) (bitsOf num x) (bitsOf k y) _ (rw a at e) starts (rw (length-bitsOf num x)) (both-bits y k))
-
--- the bits after a write: as they were where it was refused, with its field where it was not
-left : (k q p : ℕ) (t : Told) (bs ms f : List Bool) → 0 < k → (t, q, ms) ≡ writeBy k bs p f → ms ≡ bs
-left k q p t bs ms f some e = ap (λ (o : Told × ℕ × List Bool). o .2) (e ∙ write-refused k bs p f some)
-
-put : (k q p : ℕ) (t : Told) (bs ms f : List Bool) → 0 ≡ k → (t, q, ms) ≡ writeBy k bs p f → ms ≡ replaced bs p f
-unfolding writeBy
-put k q p t bs ms f none e = ap (λ (o : Told × ℕ × List Bool). o .2) (rw (← none) at e)
+      let joined = rw (length-bitsOf num x) at (replaced-append (bits l) p (bitsOf num x) (bitsOf k y) starts) in
+      rw (b, c, here, free, both-bits y k, rw a at e, joined, add-assoc p num k)
 
 pub write-calls : WriteCalls
 unfolding writeOf
 write-calls l m p x num q t hl hm e =
     let fault = fieldFault 1 (length l) p (width num) in
     let f = bitsOf (width num) x in
-    let same : 0 < fault → m ≡ l = λ some. bits-inj m l hm hl (left _ q p t (bits l) (bits m) f some e) in
-    let done : 0 ≡ fault → bits m ≡ replaced (bits l) p f = λ none. put _ q p t (bits l) (bits m) f none e in
+    let after : Told × ℕ × List Bool → List Bool = λ o. o .2 in
+    let same : 0 < fault → m ≡ l = λ some. bits-inj m l hm hl (ap after (e ∙ by-some fault _ _ some)) in
+    let done : 0 ≡ fault → bits m ≡ replaced (bits l) p f = λ none. ap after (e ∙ by-none fault _ _ none) in
     let leaves : 0 ≡ fault → WriteLeaves (bits l) p f = λ none. writes-leave (bits l) p f (starts l m p x num none (done none)) in
     let elsewhere : (q k : ℕ) → (0 ≡ fault → field (replaced (bits l) p f) q (width k) ≡ field (bits l) q (width k)) → readOf m q k ≡ readOf l q k =
     λ q k h. either fault (λ none. untouched l m p x num none (done none) q k (h none)) (λ some. ap (λ (z : List ℕ). readOf z q k) (same some))
@@ -90,6 +77,10 @@ write-calls l m p x num q t hl hm e =
     let edge-at : edge (p + length f) ≡ edge (p + width num) = ap (λ (n : ℕ). edge (p + n)) (length-bitsOf (width num) x) in
     record {
       kept = same;
+      none = λ z. either fault (λ none. bits-inj m l hm hl (done none ∙ leaves none .none (length-bitsOf (width num) x ∙ z))) same;
+      rest = λ none some.
+          let n = length-bitsOf (width num) x in
+          rw (done (sym none)) (rw n at (leaves (sym none) .rest (rw n some)));
       back = λ none. read-back l m p x num (sym none) (done (sym none));
       before = λ q k h. elsewhere q k (λ none. leaves none .before q (width k) h);
       after = λ q k h. elsewhere q k (λ none. leaves none .after q (width k) (rw edge-at h));

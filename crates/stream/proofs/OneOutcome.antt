@@ -1,11 +1,10 @@
 -- What the calls state leaves no choice.
-use mathlib.Core.Path.{_≡_, refl, sym, ap, _∙_}
+use mathlib.Core.Path.{_≡_, refl, ap}
 use mathlib.Core.Bool.{Bool}
 use mathlib.Core.List.{List}
 use Prim.Native.Nat.{ℕ, _-_}
-use Rattle.stream.specs.Bits.{bits}
 use Rattle.stream.specs.Refusals.{numberOf}
-use Rattle.stream.specs.Calls.{Told, refused, bitNumber, tellWrite, tellBit, tellByte, tellBits, tellInBits}
+use Rattle.stream.specs.Calls.{Told, refused, bitNumber, tellWrite, tellBit, tellByte, tellBits, tellInBits, toldWrite}
 use Rattle.stream.specs.Promises.{AreBytes, Tells, OneOutcome}
 use Rattle.stream.specs.declared.Bit.{Bit}
 use Rattle.stream.specs.declared.Bit.the-variants.{Zero, One}
@@ -75,11 +74,8 @@ module _ (s t : Told) (p q : ℕ) (e : _≡_ {A = Told × ℕ} (s, p) (t, q)) wh
   places : p ≡ q
   places = ap (λ (o : Told × ℕ). o .1) e
 
-write-once : (r s : Written) (m n : List ℕ) (o : Told × ℕ × List Bool) → AreBytes m → AreBytes n
-    → (tellWrite (r .answer), r .writer .at .0, bits m) ≡ o → (tellWrite (s .answer), s .writer .at .0, bits n) ≡ o
-    → (r ≡ s) × (m ≡ n)
-write-once r s m n o hm hn a b =
-    let e = a ∙ sym b in
+write-once : (r s : Written) (m n : List ℕ) → AreBytes m → AreBytes n → toldWrite r m ≡ toldWrite s n → (r ≡ s) × (m ≡ n)
+write-once r s m n hm hn e =
     let t = write-told (r .answer) (s .answer) (ap (λ (o : Told × ℕ × List Bool). o .0) e) in
     let p : r .writer .at .0 ≡ s .writer .at .0 = ap (λ (o : Told × ℕ × List Bool). o .1) e in
     (λ i. record { answer = t i; writer = record { at = record { 0 = p i } } }, bits-inj m n hm hn (ap (λ (o : Told × ℕ × List Bool). o .2) e))

@@ -7,13 +7,15 @@ use native.Mathlib.Omega.{arith}
 use borrow.Author.Tests.{ltb-false, lt-ltb, le-ltb}
 use lib.ListN.{length, getD}
 use Rattle.stream.specs.Bits.{bitsOf, valueOf, bits, field, replaced}
-use Rattle.stream.specs.Refusals.{numberOf, when, orElse}
-use Rattle.stream.specs.Calls.{limit, Told, given, refused, tellBits, width, fieldFault, writeBy, writeOf, readBy, readOf, peekOf, placeBy, inBitsOf}
+use Rattle.stream.specs.Refusals.{numberOf, when, orElse, byFault}
+use Rattle.stream.specs.Calls.{limit, Told, given, refused, tellBits, width, fieldFault, writeOf, readOf, peekOf, inBitsOf}
+use Rattle.stream.specs.Fits.{faultOf}
 use Rattle.stream.specs.Promises.{FieldFaults, Tells}
 use Rattle.stream.specs.declared.refusal.Refusal.{Refusal}
 use Rattle.stream.specs.declared.refusal.Refusal.the-variants.{NoRoom, TimeFalls, FirstDelta, DodRange, TooLong, NoStart, CutShort, BadEnd, BadWindow, ReadTimeFalls, ReadTimePasses, Closed, NoFit}
+use Rattle.stream.specs.declared.field.Fit.{Fit}
+use Rattle.stream.specs.declared.field.Fit.the-variants.{Whole}
 use Rattle.stream.specs.declared.buffered_read.BitsAnswer.{BitsAnswer}
-use Rattle.stream.proofs.Numbers.{length-bitsOf}
 use Rattle.stream.proofs.Taking.{field-lt}
 
 -- ---- rules in order
@@ -33,6 +35,19 @@ pub not-when : (b : Bool) (r : ℕ) → 0 < r → 0 ≡ when b r → b ≡ false
 unfolding when
 not-when true r h e = absurd (omega arith)
 not-when false r h e = refl
+
+module _ {A : Type 0} (k : ℕ) (done : A) (refuse : ℕ → A) where
+  pub by-none : 0 ≡ k → byFault k done refuse ≡ done
+  unfolding byFault
+  by-none e = rw (← e)
+
+  pub by-some : 0 < k → byFault k done refuse ≡ refuse k
+  unfolding byFault
+  by-some h = some k h
+    where
+      some : (k : ℕ) → 0 < k → byFault k done refuse ≡ refuse k
+      some zero h = absurd (omega arith)
+      some (suc r) h = refl
 
 -- ---- the faults of a field
 
@@ -90,44 +105,36 @@ number-pos r =
 -- ---- the place behind some bytes
 
 pub place-there : (n : ℕ) → n ≤ limit → inBitsOf n ≡ given (8 * n ∷ [])
-unfolding inBitsOf placeBy when
+unfolding inBitsOf byFault when
 place-there n h = simp (le-ltb limit n h)
 
 pub place-beyond : (n : ℕ) → limit < n → inBitsOf n ≡ refused 5
-unfolding inBitsOf placeBy when
+unfolding inBitsOf byFault when
 place-beyond n h = simp (lt-ltb limit n h)
 
--- ---- a write
+-- ---- calls
 
-pub write-refused : (k : ℕ) (bs : List Bool) (p : ℕ) (f : List Bool) → 0 < k → writeBy k bs p f ≡ (refused k, p, bs)
-unfolding writeBy
-write-refused zero bs p f h = absurd (omega arith)
-write-refused (suc k) bs p f h = refl
+-- a field that fits has no fault
+pub no-fault : (f : Fit) (k : ℕ) → f ≡ Whole → faultOf f ≡ k → 0 ≡ k
+no-fault f k e h = sym (ap faultOf e) ∙ h
 
 module _ (l : List ℕ) (p x num n : ℕ) (e : n ≡ width num) where
   pub wrote-not : (r : Refusal) → numberOf r ≡ fieldFault 1 (length l) p n → (refused (numberOf r), p, bits l) ≡ writeOf l p x num
   unfolding writeOf
-  wrote-not r f = rw (← e, ← f) (sym (write-refused (numberOf r) (bits l) p (bitsOf n x) (number-pos r)))
+  wrote-not r f = rw (← e, ← f) (sym (by-some (numberOf r) _ _ (number-pos r)))
 
   pub wrote : (m : List Bool) → 0 ≡ fieldFault 1 (length l) p n → m ≡ replaced (bits l) p (bitsOf n x)
       → (given [], p + n, m) ≡ writeOf l p x num
-  unfolding writeOf writeBy
-  wrote m f h = rw (← e, ← f, h, length-bitsOf n x)
-
--- ---- a read
-
-read-refused : (k p q : ℕ) (f : List Bool) → 0 < k → readBy k p q f ≡ (refused k, p)
-unfolding readBy
-read-refused zero p q f h = absurd (omega arith)
-read-refused (suc k) p q f h = refl
+  unfolding writeOf byFault
+  wrote m f h = rw (← e, ← f, h)
 
 module _ (l : List ℕ) (p num n : ℕ) (e : n ≡ width num) where
   pub read-not : (r : Refusal) → numberOf r ≡ fieldFault 7 (length l) p n → (refused (numberOf r), p) ≡ readOf l p num
   unfolding readOf
-  read-not r f = rw (← e, ← f) (sym (read-refused (numberOf r) p (p + n) (field (bits l) p n) (number-pos r)))
+  read-not r f = rw (← e, ← f) (sym (by-some (numberOf r) _ _ (number-pos r)))
 
   pub read-there : (v : ℕ) → 0 ≡ fieldFault 7 (length l) p n → v ≡ valueOf (field (bits l) p n) → (given (v ∷ []), p + n) ≡ readOf l p num
-  unfolding readOf readBy
+  unfolding readOf byFault
   read-there v f h = rw (← e, ← f, h)
 
 -- the answer by its case
@@ -135,14 +142,14 @@ pub told-as : (l : List ℕ) (p num q : ℕ) (a b : BitsAnswer) → a ≡ b → 
 told-as l p num q a b e h = sym (ap (λ (x : BitsAnswer). (tellBits x, q)) e) ∙ h
 
 -- a number that was read has no more digits than were asked for
-got-lt : (k p q v r n : ℕ) (f : List Bool) → (given (v ∷ []), r) ≡ readBy k p q f → valueOf f < 2 ^ n → v < 2 ^ n
-unfolding readBy
-got-lt zero p q v r n f e h =
-    let t : given (v ∷ []) ≡ given (valueOf f ∷ []) = ap (λ (x : Told × ℕ). x .0) e in
-    let z : v ≡ valueOf f = cc in
+got-lt : (k p q v r n x : ℕ) → (given (v ∷ []), r) ≡ byFault {A = Told × ℕ} k (given (x ∷ []), q) (λ r. (refused r, p)) → x < 2 ^ n → v < 2 ^ n
+unfolding byFault
+got-lt zero p q v r n x e h =
+    let t : given (v ∷ []) ≡ given (x ∷ []) = ap (λ (o : Told × ℕ). o .0) e in
+    let z : v ≡ x = cc in
     rw z h
-got-lt (suc k) p q v r n f e h =
-    let t : given (v ∷ []) ≡ refused (suc k) = ap (λ (x : Told × ℕ). x .0) e in
+got-lt (suc k) p q v r n x e h =
+    let t : given (v ∷ []) ≡ refused (suc k) = ap (λ (o : Told × ℕ). o .0) e in
     let z : _≡_ {A = ℕ} 0 1 = cc in
     absurd (omega arith)
 
@@ -151,11 +158,6 @@ unfolding readOf
 read-lt l p num v q e = got-lt _ _ _ _ _ _ _ e (field-lt (bits l) p (width num))
 
 -- a peek tells what a read tells, and stays
-stays : (k p q r : ℕ) (a : Told) (f : List Bool) → (a, q) ≡ readBy k p r f → (a, p) ≡ readBy k p p f
-unfolding readBy
-stays zero p q r a f e = ap (λ (x : Told × ℕ). (x .0, p)) e
-stays (suc k) p q r a f e = ap (λ (x : Told × ℕ). (x .0, p)) e
-
 pub peeked : (l : List ℕ) (p num q : ℕ) (a : Told) → (a, q) ≡ readOf l p num → (a, p) ≡ peekOf l p num
-unfolding readOf peekOf
-peeked l p num q a e = stays _ _ _ _ _ _ e
+unfolding peekOf
+peeked l p num q a e = ap (λ (o : Told × ℕ). (o .0, p)) e

@@ -9,6 +9,7 @@ use lib.ListN.{length, take, set, replicate, getD}
 use lib.Seq.{take-at, take-add, take-append-le, set-split}
 use lib.Pow.{shl-lt, shr-lt, pow-pos, pow-add, shr-shr}
 use lib.Arith.{digits-lt}
+use lib.Bits.{bitOr, or-shifted}
 use Rattle.stream.specs.Bits.{bitsOf, bits, edge, laid, replaced}
 use Rattle.stream.proofs.Numbers.{length-bitsOf, bitsOf-add, bitsOf-join, bitsOf-zero}
 use Rattle.stream.proofs.Bytes.{bits-append, bits-cons, bits-take, bits-drop, bits-at}
@@ -84,17 +85,20 @@ module _ (old k c chunk : ℕ) (h : old < 256) (fit : k + c ≤ 8) (hc : chunk <
   placed-small : old / 2 ^ (8 - k) * 2 ^ (8 - k) + chunk * 2 ^ (8 - k - c) < 256
   placed-small = rw (low-part, whole) at (placed-lt k c (8 - k - c) old chunk (rw (low-part, whole) h) hc)
 
-  placed-sum : (old / 2 ^ (8 - k) * 2 ^ (8 - k)) % 2 ^ 64 + (chunk * 2 ^ (8 - k - c)) % 2 ^ 64
+  placed-or : bitOr ((old / 2 ^ (8 - k) * 2 ^ (8 - k)) % 2 ^ 64) ((chunk * 2 ^ (8 - k - c)) % 2 ^ 64)
       ≡ old / 2 ^ (8 - k) * 2 ^ (8 - k) + chunk * 2 ^ (8 - k - c)
-  placed-sum =
-      ap₂ (λ (a b : ℕ). a + b) (mod-eq-of-lt (omega (arith, placed-small))) (mod-eq-of-lt (omega (arith, placed-small)))
+  placed-or =
+      let below : chunk * 2 ^ (8 - k - c) < 2 ^ (8 - k) = rw low-part at (shl-lt c (8 - k - c) hc) in
+      let high : (old / 2 ^ (8 - k) * 2 ^ (8 - k)) % 2 ^ 64 ≡ old / 2 ^ (8 - k) * 2 ^ (8 - k) = mod-eq-of-lt (omega (arith, placed-small)) in
+      let low : (chunk * 2 ^ (8 - k - c)) % 2 ^ 64 ≡ chunk * 2 ^ (8 - k - c) = mod-eq-of-lt (omega (arith, placed-small)) in
+      rw (high, low) (or-shifted (old / 2 ^ (8 - k)) (8 - k) (chunk * 2 ^ (8 - k - c)) below)
 
-  pub placed-bits : bitsOf 8 ((old / 2 ^ (8 - k) * 2 ^ (8 - k)) % 2 ^ 64 + (chunk * 2 ^ (8 - k - c)) % 2 ^ 64)
+  pub placed-bits : bitsOf 8 (bitOr ((old / 2 ^ (8 - k) * 2 ^ (8 - k)) % 2 ^ 64) ((chunk * 2 ^ (8 - k - c)) % 2 ^ 64))
       ≡ take k (bitsOf 8 old) ++ (bitsOf c chunk ++ replicate (8 - (k + c)) false)
-  placed-bits = rw (placed-sum, ← rest) (rw (low-part, whole) at (placed k c (8 - k - c) old chunk hc))
+  placed-bits = rw (placed-or, ← rest) (rw (low-part, whole) at (placed k c (8 - k - c) old chunk hc))
 
-  pub placed-byte : (old / 2 ^ (8 - k) * 2 ^ (8 - k)) % 2 ^ 64 + (chunk * 2 ^ (8 - k - c)) % 2 ^ 64 < 256
-  placed-byte = rw placed-sum placed-small
+  pub placed-byte : bitOr ((old / 2 ^ (8 - k) * 2 ^ (8 - k)) % 2 ^ 64) ((chunk * 2 ^ (8 - k - c)) % 2 ^ 64) < 256
+  placed-byte = rw placed-or placed-small
 
 -- ---- a byte's bits at a time
 

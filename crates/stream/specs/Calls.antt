@@ -1,11 +1,11 @@
 -- What the calls of the bit writer and the bit reader tell, and what a write leaves: document 01, "Port order", 2.
 use mathlib.Core.Bool.{Bool}
 use mathlib.Core.List.{List, [], _∷_}
-use Prim.Native.Nat.{ℕ, zero, suc, _+_, _*_, _%_, _^_, min}
+use Prim.Native.Nat.{ℕ, _+_, _*_, min}
 use lib.ListN.{length}
 use lib.Dec.{ltb}
 use Rattle.stream.specs.Bits.{bitsOf, valueOf, bits, field, replaced}
-use Rattle.stream.specs.Refusals.{numberOf, when, orElse}
+use Rattle.stream.specs.Refusals.{numberOf, when, orElse, byFault}
 use Rattle.stream.specs.declared.Bit.{Bit}
 use Rattle.stream.specs.declared.Bit.the-variants.{Zero, One}
 use Rattle.stream.specs.declared.position.InBits.{InBits}
@@ -18,6 +18,10 @@ use Rattle.stream.specs.declared.buffered_read.ByteAnswer.{ByteAnswer}
 use Rattle.stream.specs.declared.buffered_read.ByteAnswer.the-variants as byte
 use Rattle.stream.specs.declared.buffered_read.BitsAnswer.{BitsAnswer}
 use Rattle.stream.specs.declared.buffered_read.BitsAnswer.the-variants as many
+use Rattle.stream.specs.declared.buffered_write.Written.{Written}
+use Rattle.stream.specs.declared.buffered_read.BitRead.{BitRead}
+use Rattle.stream.specs.declared.buffered_read.ByteRead.{ByteRead}
+use Rattle.stream.specs.declared.buffered_read.BitsRead.{BitsRead}
 
 -- the most bytes that a lent buffer may have
 abbrev pub limit : ℕ
@@ -53,6 +57,20 @@ abbrev pub tellInBits : InBits → Told
 tellInBits (inBits.At p) = given (p .0 ∷ [])
 tellInBits (inBits.Refused r) = refused (numberOf r)
 
+-- ---- outcomes on paper: what was answered, the position after it and, of a write, the bits after it
+
+abbrev pub toldWrite : Written → List ℕ → Told × ℕ × List Bool
+toldWrite r l = (tellWrite (r .answer), r .writer .at .0, bits l)
+
+abbrev pub toldBit : BitRead → Told × ℕ
+toldBit r = (tellBit (r .answer), r .reader .at .0)
+
+abbrev pub toldByte : ByteRead → Told × ℕ
+toldByte r = (tellByte (r .answer), r .reader .at .0)
+
+abbrev pub toldBits : BitsRead → Told × ℕ
+toldBits r = (tellBits (r .answer), r .reader .at .0)
+
 -- ---- fields
 
 -- a count above 64 is taken as 64
@@ -64,38 +82,24 @@ unfoldable pub fieldFault : ℕ → ℕ → ℕ → ℕ → ℕ
 fieldFault short len p n =
     orElse (when (ltb limit len) 5) (orElse (when (ltb (8 * len) p) 13) (when (ltb (8 * len) (p + n)) short))
 
--- a write of the field f at p over bs, by its fault: the answer, the position and the bits after it
-unfoldable pub writeBy : ℕ → List Bool → ℕ → List Bool → Told × ℕ × List Bool
-writeBy zero bs p f = (given [], p + length f, replaced bs p f)
-writeBy (suc r) bs p f = (refused (suc r), p, bs)
-
 -- a write of the num low bits of x at p into the bytes l
 unfoldable pub writeOf : List ℕ → ℕ → ℕ → ℕ → Told × ℕ × List Bool
-writeOf l p x num = writeBy (fieldFault 1 (length l) p (width num)) (bits l) p (bitsOf (width num) x)
-
--- a read of the field f at p, by its fault: the answer, and the position, which is q if the field is there
-unfoldable pub readBy : ℕ → ℕ → ℕ → List Bool → Told × ℕ
-readBy zero p q f = (given (valueOf f ∷ []), q)
-readBy (suc r) p q f = (refused (suc r), p)
+writeOf l p x num =
+    byFault {A = Told × ℕ × List Bool} (fieldFault 1 (length l) p (width num))
+    (given [], p + width num, replaced (bits l) p (bitsOf (width num) x))
+    (λ r. (refused r, p, bits l))
 
 -- a read of num bits at p out of the bytes l
 unfoldable pub readOf : List ℕ → ℕ → ℕ → Told × ℕ
-readOf l p num = readBy (fieldFault 7 (length l) p (width num)) p (p + width num) (field (bits l) p (width num))
-
--- what a read answers where the num low bits of x were written
-unfoldable pub readBack : ℕ → ℕ → ℕ → Told × ℕ
-readBack x num p = (given (x % 2 ^ width num ∷ []), p + width num)
+readOf l p num =
+    byFault {A = Told × ℕ} (fieldFault 7 (length l) p (width num))
+    (given (valueOf (field (bits l) p (width num)) ∷ []), p + width num)
+    (λ r. (refused r, p))
 
 -- a peek is a read that does not move
 unfoldable pub peekOf : List ℕ → ℕ → ℕ → Told × ℕ
-peekOf l p num = readBy (fieldFault 7 (length l) p (width num)) p p (field (bits l) p (width num))
-
--- ---- places
-
-unfoldable pub placeBy : ℕ → ℕ → Told
-placeBy zero p = given (p ∷ [])
-placeBy (suc r) p = refused (suc r)
+peekOf l p num = (readOf l p num .0, p)
 
 -- the position behind n bytes: 5 above the limit
 unfoldable pub inBitsOf : ℕ → Told
-inBitsOf n = placeBy (when (ltb limit n) 5) (8 * n)
+inBitsOf n = byFault (when (ltb limit n) 5) (given (8 * n ∷ [])) refused

@@ -28,6 +28,7 @@ pub data Seen : Type 0 where
   number : ℕ → Seen
   bitList : List Bool → Seen
   answer : Told → ℕ → Seen
+  place : Told → Seen
 
 unfoldable pub seenRead : Told × ℕ → Seen
 seenRead o = answer (o .0) (o .1)
@@ -44,7 +45,7 @@ seen (fault s len p n e) = number (fieldFault s len p n) ∷ []
 seen (writes l p x num t q m) = seenWrite (writeOf l p x num)
 seen (reads l p num t q) = seenRead (readOf l p num) ∷ []
 seen (peeks l p num t q) = seenRead (peekOf l p num) ∷ []
-seen (behind n t) = answer (inBitsOf n) 0 ∷ []
+seen (behind n t) = place (inBitsOf n) ∷ []
 
 unfoldable pub expected : Case → List Seen
 expected (digits n x e) = bitList e ∷ number x ∷ []
@@ -54,7 +55,7 @@ expected (fault s len p n e) = number e ∷ []
 expected (writes l p x num t q m) = answer t q ∷ bitList (bits m) ∷ []
 expected (reads l p num t q) = answer t q ∷ []
 expected (peeks l p num t q) = answer t q ∷ []
-expected (behind n t) = answer t 0 ∷ []
+expected (behind n t) = place t ∷ []
 
 unfoldable pub cases : List Case
 cases =

@@ -1,12 +1,12 @@
 -- What is promised of bits, bytes and fields, and of the calls that write and read them.
 use mathlib.Core.Path.{_≡_}
 use mathlib.Core.Bool.{Bool, false}
-use mathlib.Core.List.{List, _++_}
+use mathlib.Core.List.{List, [], _∷_, _++_}
 use Prim.Native.Nat.{ℕ, _+_, _*_, _/_, _%_, _^_, _≤_, _<_}
 use lib.ListN.{length, take, drop, getD, replicate}
 use Rattle.stream.specs.Bits.{bitsOf, valueOf, bits, edge, spare, field, replaced}
 use Rattle.stream.specs.Refusals.{numberOf}
-use Rattle.stream.specs.Calls.{limit, Told, bitNumber, tellWrite, tellBit, tellByte, tellBits, tellInBits, width, fieldFault, writeOf, readOf, readBack}
+use Rattle.stream.specs.Calls.{limit, Told, given, bitNumber, tellInBits, toldWrite, toldBit, toldByte, toldBits, width, fieldFault, writeOf, readOf}
 use Rattle.stream.specs.declared.Bit.{Bit}
 use Rattle.stream.specs.declared.refusal.Refusal.{Refusal}
 use Rattle.stream.specs.declared.position.BitPos.{BitPos}
@@ -78,8 +78,13 @@ FieldFaults = (short len p n : ℕ) → FieldFault short len p n
 pub record WriteCall (l m : List ℕ) (p x num : ℕ) : Type 0 where
   -- refused, it has changed no byte
   pub kept : 0 < fieldFault 1 (length l) p (width num) → m ≡ l
+  -- so has one of no bits
+  pub none : width num ≡ 0 → m ≡ l
   -- accepted, it is read back
-  pub back : fieldFault 1 (length l) p (width num) ≡ 0 → readOf m p num ≡ readBack x num p
+  pub back : fieldFault 1 (length l) p (width num) ≡ 0 → (given (x % 2 ^ width num ∷ []), p + width num) ≡ readOf m p num
+  -- and the rest of its last byte is zero
+  pub rest : fieldFault 1 (length l) p (width num) ≡ 0 → 0 < width num
+      → field (bits m) (p + width num) (spare (p + width num)) ≡ replicate (spare (p + width num)) false
   -- what a read of a field before it answers is what it answered; so it is behind the last byte touched
   pub before : (q k : ℕ) → q + width k ≤ p → readOf m q k ≡ readOf l q k
   pub after : (q k : ℕ) → edge (p + width num) ≤ q → readOf m q k ≡ readOf l q k
@@ -92,18 +97,16 @@ abbrev pub WriteCalls : Type 0
 WriteCalls =
     (l m : List ℕ) (p x num q : ℕ) (t : Told) → AreBytes l → AreBytes m → (t, q, bits m) ≡ writeOf l p x num → WriteCall l m p x num
 
--- what a call states of its outcome says all of it
+-- two outcomes that meet a call's statement are told alike, by its right side; what is told of an outcome says all of it
 abbrev pub Tells : (A O : Type 0) → (A → O) → Type 0
 Tells A O tell = (r s : A) → tell r ≡ tell s → r ≡ s
 
 -- `one-outcome`: no two outcomes meet the statement of a call
 pub record OneOutcome : Type 0 where
-  pub write : (r s : Written) (m n : List ℕ) (o : Told × ℕ × List Bool) → AreBytes m → AreBytes n
-      → (tellWrite (r .answer), r .writer .at .0, bits m) ≡ o → (tellWrite (s .answer), s .writer .at .0, bits n) ≡ o
-      → (r ≡ s) × (m ≡ n)
-  pub readBit : Tells BitRead (Told × ℕ) (λ r. (tellBit (r .answer), r .reader .at .0))
-  pub readByte : Tells ByteRead (Told × ℕ) (λ r. (tellByte (r .answer), r .reader .at .0))
-  pub readBits : Tells BitsRead (Told × ℕ) (λ r. (tellBits (r .answer), r .reader .at .0))
+  pub write : (r s : Written) (m n : List ℕ) → AreBytes m → AreBytes n → toldWrite r m ≡ toldWrite s n → (r ≡ s) × (m ≡ n)
+  pub readBit : Tells BitRead (Told × ℕ) toldBit
+  pub readByte : Tells ByteRead (Told × ℕ) toldByte
+  pub readBits : Tells BitsRead (Told × ℕ) toldBits
   pub toBits : Tells InBits Told tellInBits
   pub number : Tells Refusal ℕ numberOf
   pub bit : Tells Bit ℕ bitNumber

@@ -31,3 +31,8 @@ when false r = 0
 unfoldable pub orElse : ℕ → ℕ → ℕ
 orElse zero s = s
 orElse (suc r) s = suc r
+
+-- by a fault: the outcome where there is none, or the one that tells it
+unfoldable pub byFault : {A : Type 0} → ℕ → A → (ℕ → A) → A
+byFault zero done refuse = done
+byFault (suc r) done refuse = refuse (suc r)

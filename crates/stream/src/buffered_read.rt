@@ -2,7 +2,7 @@
 
 ghost use mathlib.Core.Path.{_≡_};
 ghost use Prim.Native.Nat.{_<_};
-ghost use Rattle.stream.specs.Calls.{bitNumber, tellBit, tellByte, tellBits, readOf, peekOf};
+ghost use Rattle.stream.specs.Calls.{bitNumber, toldBit, toldByte, toldBits, readOf, peekOf};
 use super::Bit;
 use super::field::Fit;
 use super::field::fit_of;
@@ -34,17 +34,19 @@ pub enum BitsAnswer {
     Refused(Refusal),
 }
 
-// The answer, and the reader after it: behind the field, or where it stood if the read was refused.
+// The answer of a read of one bit, and the reader after it: behind the field, or where it stood if the read was refused.
 pub struct BitRead {
     pub answer: BitAnswer,
     pub reader: BufferedReader,
 }
 
+// The same of a byte.
 pub struct ByteRead {
     pub answer: ByteAnswer,
     pub reader: BufferedReader,
 }
 
+// The same of bits, and of a peek, after which the reader stands where it stood.
 pub struct BitsRead {
     pub answer: BitsAnswer,
     pub reader: BufferedReader,
@@ -68,7 +70,7 @@ impl BufferedReader {
 
     // Reads one bit.
     pub fn read_bit(self, buf: &[u8]) -> BitRead
-        ensures { λ r. ⌜ (tellBit (r .answer), r .reader .at .0) ≡ readOf (now (buf .entry)) (self .at .0) 1 ⌝ }
+        ensures { λ r. ⌜ toldBit r ≡ readOf (now (buf .entry)) (self .at .0) 1 ⌝ }
     {
         let f = self.read_bits(buf, 1);
         let reader = f.reader;
@@ -88,7 +90,7 @@ impl BufferedReader {
 
     // Reads eight bits.
     pub fn read_byte(self, buf: &[u8]) -> ByteRead
-        ensures { λ r. ⌜ (tellByte (r .answer), r .reader .at .0) ≡ readOf (now (buf .entry)) (self .at .0) 8 ⌝ }
+        ensures { λ r. ⌜ toldByte r ≡ readOf (now (buf .entry)) (self .at .0) 8 ⌝ }
     {
         let f = self.read_bits(buf, 8);
         let reader = f.reader;
@@ -108,7 +110,7 @@ impl BufferedReader {
 
     // Reads num bits as a number, the highest first; more than 64 are 64.
     pub fn read_bits(self, buf: &[u8], num: u32) -> BitsRead
-        ensures { λ r. ⌜ (tellBits (r .answer), r .reader .at .0) ≡ readOf (now (buf .entry)) (self .at .0) num ⌝ }
+        ensures { λ r. ⌜ toldBits r ≡ readOf (now (buf .entry)) (self .at .0) num ⌝ }
     {
         let p = self.at.0;
         let n = width_of(num);
@@ -134,7 +136,7 @@ impl BufferedReader {
 
     // What read_bits would answer; the reader stays. As in the Rust, the place is set again after a read.
     pub fn peak_bits(self, buf: &[u8], num: u32) -> BitsRead
-        ensures { λ r. ⌜ (tellBits (r .answer), r .reader .at .0) ≡ peekOf (now (buf .entry)) (self .at .0) num ⌝ }
+        ensures { λ r. ⌜ toldBits r ≡ peekOf (now (buf .entry)) (self .at .0) num ⌝ }
     {
         let f = self.read_bits(buf, num);
         let answer = f.answer;

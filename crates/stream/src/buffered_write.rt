@@ -1,8 +1,7 @@
 // The one bit writer. It keeps a position alone; the buffer is lent to each call.
 
 ghost use mathlib.Core.Path.{_≡_};
-ghost use Rattle.stream.specs.Bits.{bits};
-ghost use Rattle.stream.specs.Calls.{bitNumber, tellWrite, writeOf};
+ghost use Rattle.stream.specs.Calls.{bitNumber, toldWrite, writeOf};
 use super::Bit;
 use super::field::Fit;
 use super::field::fit_of;
@@ -46,21 +45,21 @@ impl BufferedWriter {
 
     // Writes one bit.
     pub fn write_bit(self, buf: &mut [u8], bit: Bit) -> Written
-        ensures { λ r. ⌜ (tellWrite (r .answer), r .writer .at .0, bits (now (buf .exit))) ≡ writeOf (now (buf .entry)) (self .at .0) (bitNumber bit) 1 ⌝ }
+        ensures { λ r. ⌜ toldWrite r (now (buf .exit)) ≡ writeOf (now (buf .entry)) (self .at .0) (bitNumber bit) 1 ⌝ }
     {
         self.write_bits(buf, bit.to_u64(), 1)
     }
 
     // Writes eight bits.
     pub fn write_byte(self, buf: &mut [u8], byte: u8) -> Written
-        ensures { λ r. ⌜ (tellWrite (r .answer), r .writer .at .0, bits (now (buf .exit))) ≡ writeOf (now (buf .entry)) (self .at .0) byte 8 ⌝ }
+        ensures { λ r. ⌜ toldWrite r (now (buf .exit)) ≡ writeOf (now (buf .entry)) (self .at .0) byte 8 ⌝ }
     {
         self.write_bits(buf, byte as u64, 8)
     }
 
     // Writes the num low bits of value, the highest of them first; more than 64 are 64.
     pub fn write_bits(self, buf: &mut [u8], value: u64, num: u32) -> Written
-        ensures { λ r. ⌜ (tellWrite (r .answer), r .writer .at .0, bits (now (buf .exit))) ≡ writeOf (now (buf .entry)) (self .at .0) value num ⌝ }
+        ensures { λ r. ⌜ toldWrite r (now (buf .exit)) ≡ writeOf (now (buf .entry)) (self .at .0) value num ⌝ }
     {
         let p = self.at.0;
         let n = width_of(num);

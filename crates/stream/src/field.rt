@@ -40,7 +40,7 @@ pub(super) fn fit_of(len: usize, p: usize, n: usize, short: Refusal) -> Fit
 }
 
 // How many of left bits lie in the byte of bit p: all that it has room for, so that 64 bits take at most nine turns.
-pub(super) fn room(p: usize, left: usize) -> usize
+pub(super) fn in_byte(p: usize, left: usize) -> usize
     requires { ⌜ 0 < left ⌝ }
     ensures { λ r. ⌜ r ≡ min left (8 - p % 8) ⌝ }
 {

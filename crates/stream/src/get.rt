@@ -6,7 +6,7 @@ ghost use lib.ListN.{length};
 ghost use Rattle.stream.specs.Bits.{valueOf, bits, field};
 ghost use Rattle.stream.specs.Calls.{limit};
 use super::field::digits;
-use super::field::room;
+use super::field::in_byte;
 
 // A byte as a number, and that it is one of eight digits.
 fn wide(x: u8) -> u64
@@ -48,7 +48,7 @@ fn word(buf: &[u8], i: usize) -> u64
     next_byte(buf, i, 7, g)
 }
 
-// The 64 bits at at, which lie in nine bytes.
+// The 64 bits from bit at on, which lie in nine bytes.
 fn ahead(buf: &[u8], at: usize) -> u64
     requires { ⌜ at / 8 + 9 ≤ length (now buf) ⌝ }
     ensures { λ r. ⌜ r ≡ valueOf (field (bits (now (buf .entry))) at 64) ⌝ }
@@ -70,7 +70,7 @@ fn more(buf: &[u8], p: usize, c: usize, v: u64) -> u64
     (v << c) + digits(wide(buf[i]), 8 - p % 8 - c, c)
 }
 
-// The n bits at at, a byte's bits at a time.
+// The n bits from bit at on, a byte's bits at a time.
 fn get_bytes(buf: &[u8], at: usize, n: usize) -> u64
     requires { ⌜ length (now buf) ≤ limit ⌝ }
     requires { ⌜ n ≤ 64 ⌝ }
@@ -81,7 +81,7 @@ fn get_bytes(buf: &[u8], at: usize, n: usize) -> u64
     let mut p = at;
     let mut v: u64 = 0;
     while 0 < left {
-        let c = room(p, left);
+        let c = in_byte(p, left);
         v = more(buf, p, c, v);
         left -= c;
         p += c;
@@ -89,7 +89,8 @@ fn get_bytes(buf: &[u8], at: usize, n: usize) -> u64
     v
 }
 
-// The n bits at at: out of one word where nine bytes are there, byte by byte near the buffer's end.
+// The n bits from bit at on: out of one word where nine bytes are there, byte by byte near the buffer's end. A field of no bits would ask for a
+// shift by 64.
 pub(super) fn get_field(buf: &[u8], at: usize, n: usize) -> u64
     requires { ⌜ length (now buf) ≤ limit ⌝ }
     requires { ⌜ n ≤ 64 ⌝ }

@@ -19,16 +19,19 @@ pub enum InBits {
 }
 
 impl BitPos {
+    // The place behind this many bits.
     pub fn new(bits: usize) -> Self
         ensures { λ r. ⌜ r .0 ≡ bits ⌝ }
     {
         BitPos(bits)
     }
 
+    // How many bits lie before it.
     pub fn get(self) -> usize
         ensures { λ r. ⌜ r ≡ self .0 ⌝ }
     {
-        self.0
+        let bits = self.0;
+        bits
     }
 
     // How many bytes hold the bits before this place.
@@ -45,16 +48,19 @@ impl BitPos {
 }
 
 impl ByteCount {
+    // This many bytes.
     pub fn new(bytes: usize) -> Self
         ensures { λ r. ⌜ r .0 ≡ bytes ⌝ }
     {
         ByteCount(bytes)
     }
 
+    // How many bytes it is.
     pub fn get(self) -> usize
         ensures { λ r. ⌜ r ≡ self .0 ⌝ }
     {
-        self.0
+        let bytes = self.0;
+        bytes
     }
 
     // The place behind this many bytes. More than a lent buffer may have are refused, so the product always fits a number.

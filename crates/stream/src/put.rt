@@ -8,7 +8,7 @@ ghost use lib.ListN.{length, take, replicate};
 ghost use Rattle.stream.specs.Bits.{bitsOf, bits, replaced};
 ghost use Rattle.stream.specs.Calls.{limit};
 use super::field::digits;
-use super::field::room;
+use super::field::in_byte;
 
 // The byte with c digits of chunk behind its first k bits: those k stay, what lies behind the digits becomes zero.
 fn placed(old: u8, k: usize, c: usize, chunk: u64) -> u8
@@ -18,7 +18,7 @@ fn placed(old: u8, k: usize, c: usize, chunk: u64) -> u8
 {
     let low = 8 - k;
     let kept = ((old as u64) >> low) << low;
-    (kept + (chunk << (low - c))) as u8
+    (kept | (chunk << (low - c))) as u8
 }
 
 // c digits at bit p, within one byte.
@@ -40,12 +40,12 @@ fn put_some(buf: &mut [u8], p: usize, value: u64, left: usize) -> usize
     requires { ⌜ p + left ≤ 8 * length (now buf) ⌝ }
     ensures { λ r. ⌜ (r ≡ min left (8 - p % 8)) × (bits (now (buf .exit)) ≡ replaced (bits (now (buf .entry))) p (bitsOf r (value / 2 ^ (left - r)))) ⌝ }
 {
-    let c = room(p, left);
+    let c = in_byte(p, left);
     put_chunk(buf, p, c, digits(value, left - c, c));
     c
 }
 
-// The n low digits of value at bit at, a byte's bits at a time: at most nine turns.
+// The n low digits of value from bit at on, a byte's bits at a time: at most nine turns.
 pub(super) fn put_field(buf: &mut [u8], at: usize, value: u64, n: usize)
     requires { ⌜ length (now buf) ≤ limit ⌝ }
     requires { ⌜ n ≤ 64 ⌝ }

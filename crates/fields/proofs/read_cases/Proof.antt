@@ -4,10 +4,10 @@ use Rattle.fields.proofs.read_cases.Statement.{statement}
 use Rattle.fields.proofs.read_cases.Tie as tie
 
 abbrev Inv-loop : tie.InvT-loop
-Inv-loop buf r k₀ k = k ≤ 8
+Inv-loop buf r k₀ k = k ≤ 10
 
 abbrev μ-loop : tie.MeasureT-loop
-μ-loop buf r k₀ k = 8 - k
+μ-loop buf r k₀ k = 10 - k
 
 slice-aggregate-say : tie.Need-slice-aggregate-say Inv-loop μ-loop
 slice-aggregate-say c = search needs

@@ -6,10 +6,10 @@ use Rattle.fields.proofs.run.Statement.{statement}
 use Rattle.fields.proofs.run.Tie as tie
 
 abbrev Inv-loop : tie.InvT-loop
-Inv-loop buf₀ k₀ t6 buf k = (length buf ≡ length buf₀) × (k ≤ 22)
+Inv-loop buf₀ k₀ t6 buf k = (length buf ≡ length buf₀) × (k ≤ 21)
 
 abbrev μ-loop : tie.MeasureT-loop
-μ-loop buf₀ k₀ t6 buf k = 22 - k
+μ-loop buf₀ k₀ t6 buf k = 21 - k
 
 loop-holds : tie.Need-loop-holds Inv-loop μ-loop
 loop-holds c = search needs

@@ -6,10 +6,10 @@ use Rattle.fields.proofs.write_cases.Statement.{statement}
 use Rattle.fields.proofs.write_cases.Tie as tie
 
 abbrev Inv-loop : tie.InvT-loop
-Inv-loop buf₀ w k₀ buf k = (length buf ≡ length buf₀) × (k ≤ 8)
+Inv-loop buf₀ w k₀ buf k = (length buf ≡ length buf₀) × (k ≤ 10)
 
 abbrev μ-loop : tie.MeasureT-loop
-μ-loop buf₀ w k₀ buf k = 8 - k
+μ-loop buf₀ w k₀ buf k = 10 - k
 
 byte-case-requires : tie.Need-byte-case-requires Inv-loop μ-loop
 byte-case-requires c κs = search needs

@@ -18,8 +18,8 @@ abbrev μ-loop : tie.MeasureT-loop
 loop-holds : tie.Need-loop-holds Inv-loop μ-loop
 loop-holds c = (search needs, omega arith, none-read _ _ _ (omega arith))
 
-room-requires : tie.Need-room-requires Inv-loop μ-loop
-room-requires c κs = search needs
+in-byte-requires : tie.Need-in-byte-requires Inv-loop μ-loop
+in-byte-requires c κs = search needs
 
 more-requires : tie.Need-more-requires Inv-loop μ-loop
 more-requires c κs =
@@ -52,7 +52,7 @@ get-bytes-spec =
     Inv-loop
     μ-loop
     loop-holds
-    room-requires
+    in-byte-requires
     more-requires
     sub-left
     add-p

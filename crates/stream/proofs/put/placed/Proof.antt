@@ -1,5 +1,4 @@
 use borrow.Author.Needs.{needs}
-use native.Mathlib.Omega.{arith}
 use Prim.Native.Nat.{_<_}
 use Rattle.stream.proofs.Placing.{placed-byte, placed-bits}
 use Rattle.stream.proofs.put.placed.Statement.{statement}
@@ -23,9 +22,6 @@ sub-result c = search needs
 shl-result : tie.Need-shl-result
 shl-result c = search needs
 
-add-result : tie.Need-add-result
-add-result c = omega (arith, placed-byte _ _ _ _ (small c) (c .pre .0) (c .pre .1))
-
 cast-result : tie.Need-cast-result
 cast-result c = record { fits = placed-byte _ _ _ _ (small c) (c .pre .0) (c .pre .1) }
 
@@ -35,4 +31,4 @@ returns c = placed-bits _ _ _ _ (small c) (c .pre .0) (c .pre .1)
 pub placed-spec : {M : Type 1} → statement M
 placed-spec =
     tie.close
-    (tie.spec sub-low shr-kept shl-kept sub-result shl-result add-result cast-result returns)
+    (tie.spec sub-low shr-kept shl-kept sub-result shl-result cast-result returns)

@@ -2,8 +2,8 @@ use borrow.Author.Needs.{needs}
 use Rattle.stream.proofs.put.put_some.Statement.{statement}
 use Rattle.stream.proofs.put.put_some.Tie as tie
 
-room-requires : tie.Need-room-requires
-room-requires c κs = search needs
+in-byte-requires : tie.Need-in-byte-requires
+in-byte-requires c κs = search needs
 
 sub-digits : tie.Need-sub-digits
 sub-digits c = search needs
@@ -23,4 +23,4 @@ returns c = (search needs, rw (c .before .before .before .digits .ensures .1) at
 pub put-some-spec : {M : Type 1} → statement M
 put-some-spec =
     tie.close
-    (tie.spec room-requires sub-digits digits-requires put-chunk-requires same-length returns)
+    (tie.spec in-byte-requires sub-digits digits-requires put-chunk-requires same-length returns)

@@ -1,16 +1,10 @@
 use borrow.Author.Needs.{needs}
-use mathlib.Core.Path.{_≡_, sym, ap, _∙_}
+use mathlib.Core.Path.{sym, ap, _∙_}
 use native.Mathlib.Omega.{arith}
-use lib.ListN.{length}
-use Rattle.stream.specs.Calls.{fieldFault}
 use Rattle.stream.specs.Fits.{faultOf}
-use Rattle.stream.proofs.Outcomes.{fits, read-not, read-there}
+use Rattle.stream.proofs.Outcomes.{no-fault, fits, read-not, read-there}
 use Rattle.stream.proofs.buffered_read.BufferedReader.read_bits.Statement.{statement}
 use Rattle.stream.proofs.buffered_read.BufferedReader.read_bits.Tie as tie
-
--- the field is there
-whole : (c : tie.After-enum-told) → 0 ≡ fieldFault 7 (length (c .before .before .before .before .before .args .buf .now)) (c .before .before .before .before .before .args .self .at .0) (c .before .before .before .width-of .result)
-whole c = ap faultOf (sym (c .enum-told .given .1)) ∙ c .before .before .fit-of .ensures
 
 width-of-requires : tie.Need-width-of-requires
 width-of-requires c κs = search needs
@@ -26,12 +20,12 @@ enum-told c = search needs
 
 get-field-requires : tie.Need-get-field-requires
 get-field-requires c κs =
-    let k = fits 7 _ _ _ (omega arith) (whole c) in
+    let k = fits 7 _ _ _ (omega arith) (no-fault _ _ (c .enum-told .given .1) (c .before .before .fit-of .ensures)) in
     (k .0, (omega arith, k .1))
 
 add-end : tie.Need-add-end
 add-end c =
-    let k = fits 7 _ _ _ (omega arith) (whole (c .before)) in
+    let k = fits 7 _ _ _ (omega arith) (no-fault _ _ (c .before .enum-told .given .1) (c .before .before .before .fit-of .ensures)) in
     omega arith
 
 returns : tie.Need-returns
@@ -40,7 +34,7 @@ returns c =
     read-not _ _ _ _ (b .before .width-of .ensures) (c .before .f .given .0 .0) (ap faultOf (sym (c .before .f .given .1)) ∙ b .fit-of .ensures)
 
 returns-2 : tie.Need-returns-2
-returns-2 c = read-there _ _ _ _ (c .before .before .before .before .width-of .ensures) _ (whole (c .before)) (c .get-field .ensures)
+returns-2 c = read-there _ _ _ _ (c .before .before .before .before .width-of .ensures) _ (no-fault _ _ (c .before .enum-told .given .1) (c .before .before .before .fit-of .ensures)) (c .get-field .ensures)
 
 pub read-bits-spec : {M : Type 1} → statement M
 read-bits-spec =

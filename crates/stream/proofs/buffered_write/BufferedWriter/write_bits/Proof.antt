@@ -1,16 +1,10 @@
 use borrow.Author.Needs.{needs}
-use mathlib.Core.Path.{_≡_, sym, ap, _∙_}
+use mathlib.Core.Path.{sym, ap, _∙_}
 use native.Mathlib.Omega.{arith}
-use lib.ListN.{length}
-use Rattle.stream.specs.Calls.{fieldFault}
 use Rattle.stream.specs.Fits.{faultOf}
-use Rattle.stream.proofs.Outcomes.{fits, wrote-not, wrote}
+use Rattle.stream.proofs.Outcomes.{no-fault, fits, wrote-not, wrote}
 use Rattle.stream.proofs.buffered_write.BufferedWriter.write_bits.Statement.{statement}
 use Rattle.stream.proofs.buffered_write.BufferedWriter.write_bits.Tie as tie
-
--- the field is there
-whole : (c : tie.After-enum-told) → 0 ≡ fieldFault 1 (length (c .before .before .before .before .before .args .buf .now)) (c .before .before .before .before .before .args .self .at .0) (c .before .before .before .width-of .result)
-whole c = ap faultOf (sym (c .enum-told .given .1)) ∙ c .before .before .fit-of .ensures
 
 width-of-requires : tie.Need-width-of-requires
 width-of-requires c κs = search needs
@@ -26,12 +20,12 @@ enum-told c = search needs
 
 put-field-requires : tie.Need-put-field-requires
 put-field-requires c κs =
-    let k = fits 1 _ _ _ (omega arith) (whole (c .before)) in
+    let k = fits 1 _ _ _ (omega arith) (no-fault _ _ (c .before .enum-told .given .1) (c .before .before .before .fit-of .ensures)) in
     (k .0, (omega arith, k .1))
 
 add-end : tie.Need-add-end
 add-end c =
-    let k = fits 1 _ _ _ (omega arith) (whole (c .before .before .before .before)) in
+    let k = fits 1 _ _ _ (omega arith) (no-fault _ _ (c .before .before .before .before .enum-told .given .1) (c .before .before .before .before .before .before .fit-of .ensures)) in
     omega arith
 
 returns : tie.Need-returns
@@ -45,7 +39,7 @@ same-length c = search needs
 returns-2 : tie.Need-returns-2
 returns-2 c =
     let told = c .before .before .before .before in
-    wrote _ _ _ _ _ (told .before .before .before .width-of .ensures) _ (whole told) (c .before .before .put-field .ensures)
+    wrote _ _ _ _ _ (told .before .before .before .width-of .ensures) _ (no-fault _ _ (told .enum-told .given .1) (told .before .before .fit-of .ensures)) (c .before .before .put-field .ensures)
 
 pub write-bits-spec : {M : Type 1} → statement M
 write-bits-spec =
