@@ -1,6 +1,6 @@
 -- What the program's tests of floats say: only a NaN differs from itself.
-use mathlib.Core.Path.{_≡_, refl, sym, _∙_}
-use mathlib.Core.Bool.{true, false, not, _&&_, _||_}
+use mathlib.Core.Path.{_≡_, refl, sym, ap, _∙_}
+use mathlib.Core.Bool.{Bool, true, false, not, _&&_, _||_}
 use Prim.Native.Nat.{ℕ, _*_, _<_, _≤_, _%_}
 use lib.Dec.{eqb}
 use lib.Ieee.{Float, nan, inf, fin, up, down, eq, ne, isNan, nanBits, ofBits, binary64}
@@ -17,13 +17,13 @@ self-eq (inf false) = refl
 self-eq (fin true m e) = simp (eq-eqb (m * up e * down e) (m * up e * down e) refl)
 self-eq (fin false m e) = simp (eq-eqb (m * up e * down e) (m * up e * down e) refl)
 
+not-twice : (b : Bool) → not (not b) ≡ b
+not-twice true = refl
+not-twice false = refl
+
 pub self-ne : (x : Float) → ne x x ≡ isNan x
-unfolding ne isNan
-self-ne nan = refl
-self-ne (inf true) = refl
-self-ne (inf false) = refl
-self-ne (fin true m e) = simp (eq-eqb (m * up e * down e) (m * up e * down e) refl)
-self-ne (fin false m e) = simp (eq-eqb (m * up e * down e) (m * up e * down e) refl)
+unfolding ne
+self-ne x = ap not (self-eq x) ∙ not-twice (isNan x)
 
 pub no-nan : (x : Float) → eq x x ≡ true → isNan x ≡ false
 no-nan x e = not-true (isNan x) (sym (self-eq x) ∙ e)

@@ -102,6 +102,7 @@ impl Stored {
     {
         let time = self.time;
         let b = self.bits;
+        // the sign aside, a NaN's pattern lies above that of an infinity
         if 0x7ff0_0000_0000_0000 < b % 0x8000_0000_0000_0000 {
             let zero: f64 = 0.0;
             let value = zero / zero;

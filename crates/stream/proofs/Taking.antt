@@ -129,7 +129,7 @@ module _ (bs : List Bool) (i k v x : ℕ) (ev : v ≡ valueOf (field bs (8 * i) 
 
 pub word-room : (bs : List Bool) (i k v : ℕ) → v ≡ valueOf (field bs (8 * i) (8 * k)) → k < 8 → v * 256 < 2 ^ 64
 word-room bs i k v e l =
-    let h : v < 2 ^ 56 = rw e (lt-of-lt-of-le (field-lt bs (8 * i) (8 * k)) (pow-mono {i = 8 * k} {j = 56} (omega arith))) in
+    let h : v < 2 ^ 56 = has-room bs (8 * i) (8 * k) 8 v (omega arith) e in
     omega arith
 
 -- `w << k` in r + k digits
