@@ -7,12 +7,12 @@ use mathlib.Core.Bool.{Bool, true, false}
 use mathlib.Core.List.{List, [], _∷_, _++_}
 use lib.Dec.{leb, lit≤}
 use lib.Pow.{pow-pos}
-use lib.IntN.{ℤ, pos, negsuc}
+use lib.IntN.{ℤ, pos, negsuc, natAbs}
 use lib.Signed.{leZ}
 use borrow.Author.Tests.{leb-true, lt-ltb, le-ltb}
 use Rattle.stream.specs.Bits.{odd, bitsOf}
 use Rattle.layout.specs.declared.Row.{Row}
-use Rattle.layout.specs.Rows.{minus, within, row7, longerRows, fits, inField, raw, signed}
+use Rattle.layout.specs.Rows.{minus, within, row7, longerRows, fits, inField, raw, signed, Spans}
 use Rattle.layout.specs.Promises.{FieldBack, FieldsBack, Every, RowsBack}
 use Rattle.layout.proofs.Tests.{never, both}
 
@@ -49,6 +49,11 @@ field-back n (negsuc a) h e =
       back = rw (lt-ltb (2 ^ (n - 1)) (2 ^ n - suc a) (omega arith), kept);
     }
 
+-- what a field takes is no larger than its numbers
+pub field-size : (n : ℕ) (d : ℤ) → 1 ≤ n → inField n d ≡ true → natAbs d ≤ 2 ^ n
+field-size n (pos a) h e = omega (arith, upper _ _ a e, double n h)
+field-size n (negsuc a) h e = omega (arith, lower (2 ^ (n - 1) - 1) _ a e, double n h)
+
 -- only the dod 0 has a field of 0
 pub raw-some : (n : ℕ) (d : ℤ) → 1 ≤ n → inField n d ≡ true → ¬ (d ≡ pos 0) → 0 < raw n d
 unfolding raw
@@ -57,12 +62,6 @@ raw-some n (pos (suc a)) h e z = omega arith
 raw-some n (negsuc a) h e z = omega (arith, lower (2 ^ (n - 1) - 1) _ a e, double n h)
 
 -- ---- the table
-
--- a row takes what its field takes
-pub record Spans (r : Row) : Type 0 where
-  pub some : 1 ≤ r .width
-  pub lo : r .lowest ≡ minus (2 ^ (r .width - 1) - 1)
-  pub hi : r .highest ≡ pos (2 ^ (r .width - 1))
 
 pub in-row : (r : Row) (d : ℤ) → Spans r → fits r d ≡ true → inField (r .width) d ≡ true
 in-row r d s e = rw (s .lo, s .hi) at e

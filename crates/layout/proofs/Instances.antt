@@ -2,7 +2,7 @@
 -- them only because its text no longer fits; what breaks here is a promise that has become false.
 use mathlib.Core.Path.{_≡_, refl}
 use Prim.Native.Nat.{ℕ, _+_, _-_, _*_, _/_, _^_}
-use mathlib.Core.Bool.{Bool, true, cond}
+use mathlib.Core.Bool.{Bool, true, false, cond}
 use mathlib.Core.List.{List, [], _∷_, _++_, map}
 use lib.Count.{leadingZeros, trailingZeros}
 use lib.Dec.{ltb}
@@ -11,7 +11,7 @@ use lib.ListN.{take}
 use Rattle.stream.specs.Bits.{odd, digit, bitsOf, valueOf, field}
 use Rattle.layout.specs.declared.Row.{Row}
 use Rattle.layout.specs.Rows.{minus, within, rows, fits, inField, raw, signed}
-use Rattle.layout.specs.Windows.{Window, window, digits, reuses, tight, reuseBits, openBits, xorBits, windowAfter}
+use Rattle.layout.specs.Windows.{Window, window, noDigit, unopened, badWindow, digits, reuses, tight, reuseBits, openBits, xorBits, windowAfter}
 use Rattle.layout.specs.Writing.{Point, pointOf, inRow, rowBits, dodBits, startBits, marker, firstBits, laterBits, pointBits, firstState, laterState, stateAfter, restBits, opened, streamBits}
 use Rattle.layout.specs.Reading.{run, readStart, readRow, readDod, newTime, readMarker, readDigits, readOpened, readWindow, readXor, readValue, afterDod, readLater, firstTime, readFirst, readNext}
 use Rattle.layout.specs.Answers.{position, reached, answerOf, step, afterStart, firstStep, nextStep, outcomesAfter, outcomes, answers, lack, tornBy, torn}
@@ -47,6 +47,13 @@ digits-at : map (λ (w : Window). map (λ (x : ℕ). cond (reuses 6 w x) (ltb (x
     ≡ map (λ (w : Window). map (λ (x : ℕ). true) xors) windows
 unfolding windows xors reuses leadingZeros trailingZeros
 digits-at = refl
+
+-- ---- `bad-windows`
+
+bad-at : map (badWindow 6) (window 64 64 ∷ window 64 0 ∷ window 0 64 ∷ window 32 32 ∷ window 63 0 ∷ window 0 63 ∷ window 0 0 ∷ [])
+    ≡ (false ∷ true ∷ true ∷ true ∷ false ∷ false ∷ false ∷ [])
+unfolding badWindow noDigit unopened
+bad-at = refl
 
 -- ---- `points-come-back`: of series that are accepted, with noise behind them
 

@@ -1,6 +1,8 @@
 pub mod Cases
 pub mod Tests
 pub mod Fields
+pub mod Table
+pub mod Zeros
 pub mod Instances
 pub mod Xors
 pub mod Runs

@@ -2,7 +2,7 @@
 -- (`marked` stands with its cases in Cases.)
 use mathlib.Core.Path.{_≡_}
 use Prim.Native.Nat.{ℕ, zero, suc, _+_, _-_, _*_, _/_, _^_, _≤_, _<_}
-use mathlib.Core.Bool.{Bool, true, cond}
+use mathlib.Core.Bool.{Bool, true, false, cond}
 use mathlib.Core.List.{List, [], _∷_, _++_}
 use lib.Dec.{ltb}
 use lib.IntN.{ℤ}
@@ -12,7 +12,7 @@ use lib.ListN.{length, take, replicate, getD}
 use Rattle.stream.specs.Bits.{bits, bytesFor, padded}
 use Rattle.layout.specs.declared.Row.{Row}
 use Rattle.layout.specs.Rows.{rows, fits, inField, raw, signed}
-use Rattle.layout.specs.Windows.{Window, digits, reuses}
+use Rattle.layout.specs.Windows.{Window, digits, reuses, badWindow}
 use Rattle.layout.specs.Writing.{Point, pointOf, Progress, going, pointBits, stateAfter, opened, streamBits, Accepted}
 use Rattle.layout.specs.Answers.{Reached, position, Answer, aPoint, anEnd, refusal, outcomes, answers, lack, tornBy, torn}
 
@@ -56,6 +56,12 @@ module _ (c : ℕ) where
     pub twice : (u v : ℕ) → bitXor (bitXor u v) v ≡ u
     -- a number that is not 0 has a digit between its zeros
     pub zeros : (x : ℕ) → 0 < x → x < 2 ^ (2 ^ c) → leadingZeros (2 ^ c) x + trailingZeros (2 ^ c) x < 2 ^ c
+
+  -- `bad-windows`: which windows a state can't have: their zeros sum above 63, and they are not the 64 and 64 of the beginning
+  pub record BadWindow (w : Window) : Type 0 where
+    pub digit : w .lead + w .trail < 2 ^ c → badWindow c w ≡ false
+    pub begins : w .lead ≡ 2 ^ c → w .trail ≡ 2 ^ c → badWindow c w ≡ false
+    pub other : 2 ^ c ≤ w .lead + w .trail → (w .lead ≡ 2 ^ c → w .trail ≡ 2 ^ c → ⊥) → badWindow c w ≡ true
 
   -- ---- `points-come-back`
 

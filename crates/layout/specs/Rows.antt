@@ -1,10 +1,12 @@
 -- The rows in which a dod is written, and its signed field: document 01, the table and "Reading a field of n bits".
-use Prim.Native.Nat.{ℕ, suc, _-_, _^_}
+use mathlib.Core.Path.{_≡_}
+use Prim.Native.Nat.{ℕ, suc, _-_, _^_, _≤_, _<_}
 use mathlib.Core.Bool.{Bool, cond, _&&_}
 use mathlib.Core.List.{List, [], _∷_}
 use lib.Dec.{ltb}
 use lib.IntN.{ℤ, pos, negsuc, negℤ}
 use lib.Signed.{leZ}
+use lib.ListN.{getD}
 use Rattle.layout.specs.declared.Row.{Row}
 
 -- ---- signed numbers
@@ -39,6 +41,10 @@ longerRows = row9 ∷ row12 ∷ row32 ∷ []
 abbrev pub rows : List Row
 rows = row7 ∷ longerRows
 
+-- row i, counted from 0; past the end the last
+unfoldable pub rowAt : ℕ → Row
+rowAt i = getD rows i row32
+
 abbrev pub fits : Row → ℤ → Bool
 fits r d = within (r .lowest) (r .highest) d
 
@@ -56,3 +62,18 @@ raw n (negsuc a) = 2 ^ n - suc a
 -- a raw number above 2^(n - 1) stands for raw - 2^n, otherwise for itself
 unfoldable pub signed : ℕ → ℕ → ℤ
 signed n x = cond (ltb (2 ^ (n - 1)) x) (minus (2 ^ n - x)) (pos x)
+
+-- ---- what each row keeps to
+
+-- it takes what its field takes
+pub record Spans (r : Row) : Type 0 where
+  pub some : 1 ≤ r .width
+  pub lo : r .lowest ≡ minus (2 ^ (r .width - 1) - 1)
+  pub hi : r .highest ≡ pos (2 ^ (r .width - 1))
+
+-- at most four control bits, and a field of at most 32
+pub record Good (r : Row) : Type 0 where
+  pub whole : r .prefix < 2 ^ r .«prefix_len»
+  pub short : r .«prefix_len» ≤ 4
+  pub narrow : r .width ≤ 32
+  pub spans : Spans r

@@ -1,9 +1,9 @@
 -- Windows, and the digits of a xor: document 01, "Later value" and "The window".
 -- The parameter c gives the width of a value, 2 ^ c bits: 6 for 64 bits.
-use Prim.Native.Nat.{ℕ, zero, suc, _-_, _/_, _^_}
-use mathlib.Core.Bool.{Bool, true, false, cond, _&&_}
+use Prim.Native.Nat.{ℕ, zero, suc, _+_, _-_, _/_, _^_}
+use mathlib.Core.Bool.{Bool, true, false, cond, not, _&&_}
 use mathlib.Core.List.{List, [], _∷_, _++_}
-use lib.Dec.{leb}
+use lib.Dec.{eqb, leb, ltb}
 use lib.Count.{leadingZeros, trailingZeros}
 use Rattle.stream.specs.Bits.{bitsOf}
 
@@ -26,6 +26,18 @@ module _ (c : ℕ) where
 
   abbrev pub digits : Window → ℕ
   digits w = 2 ^ c - w .lead - w .trail
+
+  -- zeros that leave no digit: they sum above 63
+  unfoldable pub noDigit : Window → Bool
+  noDigit w = ltb (2 ^ c - 1) (w .lead + w .trail)
+
+  -- the window that the encoder begins with
+  unfoldable pub unopened : Window → Bool
+  unopened w = eqb (w .lead) (2 ^ c) && eqb (w .trail) (2 ^ c)
+
+  -- a window that no state can have: without a digit, and not that one
+  unfoldable pub badWindow : Window → Bool
+  badWindow w = noDigit w && not (unopened w)
 
   -- are the xor's zeros each at least those of the window?
   unfoldable pub reuses : Window → ℕ → Bool

@@ -3,6 +3,7 @@ use mathlib.Core.Path.{_≡_, refl, sym, ap, _∙_}
 use mathlib.Core.Bool.{Bool, true, false}
 use mathlib.Core.List.{List, [], _∷_}
 use Prim.Native.Nat.{ℕ, zero, suc, _+_, _-_, _*_, _^_, _≤_, _<_}
+use native.Mathlib.Nat.{min-eq-left}
 use native.Mathlib.Omega.{arith}
 use borrow.Author.Tests.{ltb-false, lt-ltb, le-ltb}
 use lib.ListN.{length, getD}
@@ -30,6 +31,16 @@ pub none-holds : (a b : ℕ) → 0 ≡ orElse a b → (0 ≡ a) × (0 ≡ b)
 unfolding orElse
 none-holds zero b e = (refl, e)
 none-holds (suc a) b e = absurd (omega arith)
+
+-- the first of two, where it holds, and the second where it does not
+pub or-some : (a b : ℕ) → 0 < a → orElse a b ≡ a
+unfolding orElse
+or-some zero b h = absurd (omega arith)
+or-some (suc a) b h = refl
+
+pub or-none : (a b : ℕ) → 0 ≡ a → orElse a b ≡ b
+unfolding orElse
+or-none a b e = rw (← e)
 
 pub not-when : (b : Bool) (r : ℕ) → 0 < r → 0 ≡ when b r → b ≡ false
 unfolding when
@@ -136,6 +147,24 @@ module _ (l : List ℕ) (p num n : ℕ) (e : n ≡ width num) where
   pub read-there : (v : ℕ) → 0 ≡ fieldFault 7 (length l) p n → v ≡ valueOf (field (bits l) p n) → (given (v ∷ []), p + n) ≡ readOf l p num
   unfolding readOf byFault
   read-there v f h = rw (← e, ← f, h)
+
+-- ---- a field of at most 64 bits in a buffer within the limit
+
+module _ (l : List ℕ) (p n : ℕ) (few : n ≤ 64) (short : length l ≤ limit) where
+  pub write-is : (x : ℕ) → p + n ≤ 8 * length l → writeOf l p x n ≡ (given [], p + n, replaced (bits l) p (bitsOf n x))
+  unfolding writeOf byFault
+  write-is x h = rw (min-eq-left few, field-faults 1 (length l) p n .there short h)
+
+  pub read-is : p + n ≤ 8 * length l → readOf l p n ≡ (given (valueOf (field (bits l) p n) ∷ []), p + n)
+  unfolding readOf byFault
+  read-is h = rw (min-eq-left few, field-faults 7 (length l) p n .there short h)
+
+  pub read-none : 8 * length l < p + n → readOf l p n ≡ (refused (fieldFault 7 (length l) p n), p)
+  unfolding readOf
+  read-none h =
+      let some : 0 < fieldFault 7 (length l) p n =
+      either (fieldFault 7 (length l) p n) (λ none. absurd (omega (arith, fits 7 (length l) p n (omega arith) none))) (λ k. k)
+      in rw (min-eq-left few) (by-some _ _ _ some)
 
 -- the answer by its case
 pub told-as : (l : List ℕ) (p num q : ℕ) (a b : BitsAnswer) → a ≡ b → (tellBits a, q) ≡ readOf l p num → (tellBits b, q) ≡ readOf l p num
