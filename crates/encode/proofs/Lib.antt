@@ -1,0 +1,9 @@
+pub mod Signs
+pub mod Codes
+pub mod Values
+pub mod Points
+pub mod CallLaws
+pub mod OneOutcome
+pub mod Standing
+pub mod Holding
+pub mod Instances

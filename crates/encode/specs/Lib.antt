@@ -1,0 +1,5 @@
+pub mod States
+pub mod Codes
+pub mod Calls
+pub mod Parts
+pub mod Promises
