@@ -1,0 +1,10 @@
+pub mod Fields
+pub mod Values
+pub mod Dods
+pub mod Times
+pub mod Steps
+pub mod CallLaws
+pub mod OneOutcome
+pub mod Holds
+pub mod Along
+pub mod Instances

@@ -1,0 +1,4 @@
+pub mod States
+pub mod Calls
+pub mod Parts
+pub mod Promises
