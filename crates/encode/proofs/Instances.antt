@@ -21,12 +21,12 @@ begins n at closed = enc n at (state 0 0 0 (window 64 64)) true closed
 
 -- a closed state, and a buffer of another length: 12
 standing-at : standing 6 (begins 23 64 true) 24 ≡ 12
-unfolding standing when orElse
+unfolding standing noFit when orElse
 standing-at = refl
 
 -- a position in the start; the last one with room for the marker, and the next
 misfit-at : noFit 6 (begins 23 63 false) 23 ≡ true
-unfolding noFit
+unfolding noFit badWindow noDigit unopened
 misfit-at = refl
 
 last-at : noFit 6 (begins 23 148 false) 23 ≡ false
@@ -34,7 +34,7 @@ unfolding noFit badWindow noDigit unopened
 last-at = refl
 
 past-at : noFit 6 (begins 23 149 false) 23 ≡ true
-unfolding noFit
+unfolding noFit badWindow noDigit unopened
 past-at = refl
 
 open-at : openFault 12 ≡ 1
