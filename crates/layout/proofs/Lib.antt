@@ -7,6 +7,7 @@ pub mod Instances
 pub mod Xors
 pub mod Runs
 pub mod Prefix
+pub mod Rising
 pub mod Times
 pub mod Values
 pub mod Round

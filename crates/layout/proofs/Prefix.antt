@@ -18,7 +18,7 @@ use Rattle.layout.specs.Answers.{Reached, pointAt, endAt, wrongAt, posit
 use Rattle.layout.specs.Promises.{Every, KeepsPrefix, MoreData}
 use Rattle.layout.proofs.Runs.{Upto, same, late, run-take, reach-from}
 
-position-reached : (o : Outcome Label Found) → position (reached o) ≡ reach o
+pub position-reached : (o : Outcome Label Found) → position (reached o) ≡ reach o
 unfolding position reached reach
 position-reached (got (point s) q) = refl
 position-reached (got ending q) = refl
@@ -51,7 +51,7 @@ unfolding lack
 lack-long j h = rw (le-ltb _ _ h)
 
 module _ (c : ℕ) where
-  length-after : (n : ℕ) (o : Reached) (s : List Bool) → length (outcomesAfter c n o s) ≡ n
+  pub length-after : (n : ℕ) (o : Reached) (s : List Bool) → length (outcomesAfter c n o s) ≡ n
   unfolding outcomesAfter
   length-after zero o s = refl
   length-after (suc n) o s = ap suc (length-after n (nextStep c o s) s)

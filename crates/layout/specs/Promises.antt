@@ -14,7 +14,7 @@ use Rattle.layout.specs.declared.Row.{Row}
 use Rattle.layout.specs.Rows.{rows, fits, inField, raw, signed}
 use Rattle.layout.specs.Windows.{Window, digits, reuses, badWindow}
 use Rattle.layout.specs.Writing.{Point, pointOf, Progress, going, pointBits, stateAfter, opened, streamBits, Accepted}
-use Rattle.layout.specs.Answers.{Reached, position, Answer, aPoint, anEnd, refusal, outcomes, answers, lack, tornBy, torn}
+use Rattle.layout.specs.Answers.{Reached, position, Answer, aPoint, anEnd, refusal, answerOf, outcomes, answers, lack, tornBy, torn}
 
 -- ---- `field-back`: a dod's field, once over its width
 
@@ -92,6 +92,19 @@ module _ (c : ℕ) where
         → Every (λ (o : Reached). position o ≤ j) (outcomes c n s) → f n (take j s) ≡ answers c n s
     -- it leaves no choice: whoever keeps it is this decoder
     pub determines : (f : ℕ → List Bool → List Answer) → KeepsPrefix f → (n : ℕ) (s : List Bool) → f n s ≡ answers c n s
+
+  -- ---- `precisely`: the same, answer by answer; the n outcomes on s, of which the i-th is looked at (o and a stand in past the last)
+
+  pub record Precise (n j : ℕ) (s : List Bool) (o : Reached) (a : Answer) (i : ℕ) : Type 0 where
+    -- where its last bit lies in the first j bits, it is answered on them as on the whole
+    pub given : position (getD (outcomes c n s) i o) ≤ j → getD (answers c n (take j s)) i a ≡ answerOf (getD (outcomes c n s) i o)
+    -- where it does not, 6 or 7 is
+    pub torn : j < position (getD (outcomes c n s) i o) → getD (answers c n (take j s)) i a ≡ refusal (lack j)
+    -- and then none behind it lies in them either
+    pub rising : (k : ℕ) → i ≤ k → k < n → position (getD (outcomes c n s) i o) ≤ position (getD (outcomes c n s) k o)
+
+  abbrev pub Precisely : Type 0
+  Precisely = (n j : ℕ) (s : List Bool) (o : Reached) (a : Answer) (i : ℕ) → i < n → Precise n j s o a i
 
   -- ---- `closed-cut`
 
