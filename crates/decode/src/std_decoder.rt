@@ -195,6 +195,13 @@ impl StdDecoder {
         Opened { answer, decoder }
     }
 
+    // Behind the last point given, 0 before the first; the step that ends a decoder does not move it.
+    pub fn position(self) -> BitPos
+        ensures { λ q. ⌜ q .0 ≡ view self .at ⌝ }
+    {
+        self.r.position()
+    }
+
     // The next point, the end or a refusal. An ended decoder repeats its answer; then 13, which neither ends nor changes it.
     pub fn next(self, buf: &[u8]) -> Next
         ensures { λ r. ⌜ toldNext r ≡ nextOf 6 (view self) (length (now (buf .entry))) (bits (now (buf .entry))) ⌝ }

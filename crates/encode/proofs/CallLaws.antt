@@ -62,7 +62,7 @@ module _ (c : ℕ) (e : Enc) (n : ℕ) where
     tooLong = λ a b. simp (eq-eqb n (e .len) a, lt-ltb limit (e .len) b);
     tooEarly = λ a b d. simp (eq-eqb n (e .len) a, le-ltb limit (e .len) b, lt-ltb (e .at) 64 d);
     tooLate = λ a b d f. simp (eq-eqb n (e .len) a, le-ltb limit (e .len) b, le-ltb (e .at) 64 d, lt-ltb (8 * e .len) (e .at + 36) f);
-    window = λ a b d f. simp (eq-eqb n (e .len) a, le-ltb limit (e .len) b, le-ltb (e .at) 64 d, le-ltb (8 * e .len) (e .at + 36) f);
+    otherwise = λ a b d f. simp (eq-eqb n (e .len) a, le-ltb limit (e .len) b, le-ltb (e .at) 64 d, le-ltb (8 * e .len) (e .at + 36) f);
   }
 
   pub standing-faults : StandingFault c e n

@@ -52,7 +52,7 @@ module _ (c : ℕ) where
       let a = none-holds _ _ (sym z) in
       let short : n ≤ limit = ltb-false _ _ (not-when _ 5 (omega arith) (a .0)) in
       let long : 13 ≤ n = ltb-false _ _ (not-when _ 1 (omega arith) (a .1)) in
-      standing-faults c (fresh c n start) n .stands refl (misfits c (fresh c n start) n .window refl short (omega arith) (omega arith) ∙ fine-at-first)
+      standing-faults c (fresh c n start) n .stands refl (misfits c (fresh c n start) n .otherwise refl short (omega arith) (omega arith) ∙ fine-at-first)
 
   module _ (e : Enc) (n : ℕ) (p : Point) (u : e .value < 2 ^ (2 ^ c)) (v : p .value < 2 ^ (2 ^ c)) (z : pointFault c e n p ≡ 0) where
     fine : Fine (e .window) → Fine (after c e p .window)
@@ -66,7 +66,7 @@ module _ (c : ℕ) where
         let s = stands-as c e n (a .0) in
         let room : e .at + length (pointBits c (progress e) p) + 36 ≤ 8 * e .len = ltb-false _ _ (not-when _ 1 (omega arith) (none-holds _ _ (a .1) .1)) in
         standing-faults c (after c e p) n .stands refl
-        (misfits c (after c e p) n .window (s .same) (s .small) (omega (arith, s .begun)) (omega (arith, room)) ∙ fine (s .window))
+        (misfits c (after c e p) n .otherwise (s .same) (s .small) (omega (arith, s .begun)) (omega (arith, room)) ∙ fine (s .window))
 
   pub stands-on : StandsOn c
   stands-on = record { opened = opened; offered = offered }

@@ -53,7 +53,7 @@ module _ (c : ℕ) where
     pub tooLong : n ≡ e .len → limit < e .len → noFit c e n ≡ true
     pub tooEarly : n ≡ e .len → e .len ≤ limit → e .at < 64 → noFit c e n ≡ true
     pub tooLate : n ≡ e .len → e .len ≤ limit → 64 ≤ e .at → 8 * e .len < e .at + 36 → noFit c e n ≡ true
-    pub window : n ≡ e .len → e .len ≤ limit → 64 ≤ e .at → e .at + 36 ≤ 8 * e .len → noFit c e n ≡ badWindow c (e .window)
+    pub otherwise : n ≡ e .len → e .len ≤ limit → 64 ≤ e .at → e .at + 36 ≤ 8 * e .len → noFit c e n ≡ badWindow c (e .window)
 
   -- `standing-faults`: of a point and of closing, before anything else
   pub record StandingFault (e : Enc) (n : ℕ) : Type 0 where

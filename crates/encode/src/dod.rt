@@ -5,9 +5,8 @@ ghost use mathlib.Core.Bool.{true};
 ghost use Prim.Native.Nat.{_^_, _≤_, _<_};
 ghost use lib.IntN.{pos, natAbs};
 ghost use lib.Signed.{ltZ};
-ghost use Rattle.layout.specs.Rows.{rows, fits, raw};
+ghost use Rattle.layout.specs.Rows.{Good, rows, fits, raw};
 ghost use Rattle.layout.specs.Writing.{inRange, inRow, rowBits};
-ghost use Rattle.layout.specs.Rows.{Good};
 ghost use Rattle.encode.specs.Parts.{dodFor};
 use layout::Row;
 use layout::row_at;
@@ -50,6 +49,7 @@ fn magnitude(d: i64) -> u64
     if d >= 0 { d as u64 } else { (0 - d) as u64 }
 }
 
+// Below 0: told by a call, so that a field's sign is asked in one place.
 fn negative(d: i64) -> bool
     ensures { λ r. ⌜ r ≡ ltZ d (pos 0) ⌝ }
 {

@@ -36,7 +36,7 @@ bad-window-requires : tie.Need-bad-window-requires
 bad-window-requires c κs = search needs
 
 returns-6 : tie.Need-returns-6
-returns-6 c = c .bad-window .ensures ∙ sym (misfits 6 _ _ .window (omega arith) (omega arith) (omega arith) (omega arith))
+returns-6 c = c .bad-window .ensures ∙ sym (misfits 6 _ _ .otherwise (omega arith) (omega arith) (omega arith) (omega arith))
 
 pub no-fit-spec : {M : Type 1} → statement M
 no-fit-spec =
