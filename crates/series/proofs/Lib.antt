@@ -1,0 +1,11 @@
+pub mod Sits
+pub mod Refused
+pub mod Sitting
+pub mod Left
+pub mod Decodes
+pub mod Instances
+pub mod Packs
+pub mod Unpacks
+pub mod ListOutcomes
+pub mod ListPromises
+pub mod ListInstances

@@ -1,0 +1,4 @@
+pub mod Sittings
+pub mod Lists
+pub mod Promises
+pub mod ListPromises
