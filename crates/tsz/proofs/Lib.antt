@@ -1,0 +1,4 @@
+pub mod FileLaws
+pub mod Whole
+pub mod FileInstances
+pub mod Answered
