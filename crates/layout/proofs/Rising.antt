@@ -1,16 +1,16 @@
 -- Steps use bits ever further on; so the answers on a part of the bits are precisely those that lie in it.
-use mathlib.Core.Path.{_≡_, refl, ap, _∙_}
+use mathlib.Core.Path.{_≡_, refl, ap}
 use Prim.Native.Nat.{ℕ, zero, suc, _≤_, _<_}
 use native.Mathlib.Nat.{le-refl, lt-of-not-le}
 use native.Mathlib.Decide.{decLe}
 use native.Mathlib.Omega.{arith}
 use mathlib.Core.Bool.{Bool}
 use mathlib.Core.List.{List, [], _∷_}
-use lib.ListN.{length, take, getD, getD-replicate}
+use lib.ListN.{length, getD, getD-replicate}
 use Rattle.layout.specs.Windows.{decoderWindow}
 use Rattle.layout.specs.Writing.{going}
 use Rattle.layout.specs.Reading.{run, readNext}
-use Rattle.layout.specs.Answers.{Reached, pointAt, endAt, wrongAt, position, Answer, refusal, answerOf, step, firstStep, nextStep, outcomesAfter, outcomes, answers, lack, torn}
+use Rattle.layout.specs.Answers.{Reached, pointAt, endAt, wrongAt, position, Answer, refusal, answerOf, step, firstStep, nextStep, outcomesAfter, outcomes, lack, torn}
 use Rattle.layout.specs.Promises.{Precisely}
 use Rattle.layout.proofs.Runs.{reach-from}
 use Rattle.layout.proofs.Prefix.{position-reached, torn-in, torn-out, length-after, more-data}

@@ -1,8 +1,8 @@
 -- Decoders on what a sitting left, and on a part of any bytes.
-use mathlib.Core.Path.{_≡_, refl, sym, ap, _∙_}
+use mathlib.Core.Path.{_≡_, sym, ap, _∙_}
 use mathlib.Core.Bool.{Bool}
-use mathlib.Core.List.{List, _++_, map}
-use Prim.Native.Nat.{ℕ, _+_, _*_, _^_, _≤_, _<_}
+use mathlib.Core.List.{List, _++_}
+use Prim.Native.Nat.{ℕ, _+_, _*_, _≤_, _<_}
 use native.Mathlib.Omega.{arith}
 use lib.ListN.{length, take, drop, getD, length-take, take-append-drop, List·getD-map}
 use lib.Seq.{take-take, length-take-le}
@@ -10,18 +10,17 @@ use Rattle.stream.specs.Bits.{bits, bytesFor, field, replaced}
 use Rattle.stream.specs.Calls.{limit}
 use Rattle.stream.proofs.Writes.{writes-leave}
 use Rattle.stream.proofs.Bytes.{length-bits, bits-take}
-use Rattle.layout.specs.Writing.{Point, opened, streamBits, Fitting}
-use Rattle.layout.specs.Answers.{Reached, Answer, answerOf, outcomes, answers}
-use Rattle.layout.specs.Promises.{Every, back}
+use Rattle.layout.specs.Answers.{answerOf, outcomes, answers}
+use Rattle.layout.specs.Promises.{back}
 use Rattle.layout.proofs.Round as layout
 use Rattle.layout.proofs.Closed as closed
 use Rattle.layout.proofs.Rising.{precisely}
-use Rattle.encode.specs.Calls.{Outcome, openFault}
+use Rattle.encode.specs.Calls.{Outcome}
 use Rattle.decode.proofs.Along.{opened-answers}
 use Rattle.series.specs.Sittings.{takenOf, streamOf, closedOf}
 use Rattle.series.specs.Promises.{decodes, PointsComeBack, MoreDatas, ClosedCuts}
 use Rattle.series.proofs.Sitting.{closing, sitting}
-use Rattle.series.proofs.Left.{open-size, left, room, same-size, first-bytes}
+use Rattle.series.proofs.Left.{open-size, room, same-size, first-bytes}
 
 module _ (c : ℕ) where
   -- a decoder opened on bytes within the limit gives the layout's answers

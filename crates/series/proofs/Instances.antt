@@ -4,20 +4,20 @@ use mathlib.Core.Path.{_≡_, refl}
 use mathlib.Core.List.{List, [], _∷_, _++_, map}
 use Prim.Native.Nat.{ℕ, _+_}
 use lib.Count.{leadingZeros, trailingZeros}
-use lib.ListN.{length, take, replicate}
-use Rattle.stream.specs.Bits.{odd, digit, bitsOf, valueOf, bits, edge, padded, field, laid, replaced}
+use lib.ListN.{take, replicate}
+use Rattle.stream.specs.Bits.{odd, digit, bitsOf, valueOf, bits, edge, field, laid, replaced}
 use Rattle.stream.specs.Refusals.{when, orElse, byFault}
-use Rattle.stream.specs.Calls.{Told, given, refused}
+use Rattle.stream.specs.Calls.{given, refused}
 use Rattle.layout.specs.Rows.{within, signed}
 use Rattle.layout.specs.Windows.{noDigit, unopened, badWindow, reuses, tight, openBits, reuseBits, xorBits, windowAfter}
-use Rattle.layout.specs.Writing.{Point, pointOf, opened, timeFault, dodBits, startBits, marker, firstState, firstBits, laterBits, pointBits, laterState, stateAfter, restBits, streamBits}
+use Rattle.layout.specs.Writing.{Point, pointOf, opened, timeFault, dodBits, startBits, marker, firstState, firstBits, laterBits, pointBits, laterState, stateAfter}
 use Rattle.layout.specs.Reading.{run, readStart, readRow, readDod, newTime, readMarker, readValue, afterDod, readLater, firstTime, readFirst, readNext}
-use Rattle.layout.specs.Answers.{Answer, aPoint, anEnd, refusal, reached, answerOf, step, afterStart, firstStep}
+use Rattle.layout.specs.Answers.{aPoint, anEnd, refusal, reached, answerOf, step, afterStart, firstStep}
 use Rattle.layout.specs.Cases.{m3}
 use Rattle.encode.specs.States.{progressBy}
-use Rattle.encode.specs.Calls.{noFit, standing, openFault, roomFault, pointFault, fresh, shut, marked, after, openOf, encodeOf, closeOf}
+use Rattle.encode.specs.Calls.{noFit, standing, openFault, roomFault, pointFault, fresh, after, openOf, encodeOf, closeOf}
 use Rattle.decode.specs.Calls as decoder
-use Rattle.series.specs.Sittings.{offersOf, satOf, closedOf, ruling, accepts, rulings, sumOf, takenOf, streamOf}
+use Rattle.series.specs.Sittings.{offersOf, satOf, closedOf, ruling, accepts, rulings, sumOf, takenOf}
 use Rattle.series.specs.Promises.{decodes}
 
 offers : List Point

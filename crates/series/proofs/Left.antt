@@ -1,13 +1,13 @@
 -- What a sitting left, in bytes.
-use mathlib.Core.Path.{_≡_, refl, sym, ap, _∙_}
+use mathlib.Core.Path.{_≡_, sym, ap, _∙_}
 use mathlib.Core.Bool.{Bool}
 use mathlib.Core.List.{List, _++_}
-use Prim.Native.Nat.{ℕ, _+_, _*_, _≤_, _<_}
+use Prim.Native.Nat.{ℕ, _+_, _*_, _≤_}
 use native.Mathlib.Omega.{arith}
 use borrow.Author.Tests.{ltb-false}
-use lib.ListN.{length, take, drop, getD, length-append, length-drop}
+use lib.ListN.{length, take, drop, length-append, length-drop}
 use lib.Seq.{take-at, drop-at, getD-drop}
-use Rattle.stream.specs.Bits.{bits, bytesFor, edge, padded, replaced}
+use Rattle.stream.specs.Bits.{bits, bytesFor, edge, padded}
 use Rattle.stream.specs.Calls.{limit}
 use Rattle.stream.specs.Promises.{AreBytes}
 use Rattle.stream.proofs.Outcomes.{none-holds, not-when}

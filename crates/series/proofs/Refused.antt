@@ -9,9 +9,9 @@ use Rattle.stream.specs.Calls.{refused}
 use Rattle.stream.proofs.Outcomes.{by-some}
 use Rattle.layout.specs.Writing.{Point}
 use Rattle.encode.specs.States.{Enc}
-use Rattle.encode.specs.Calls.{Outcome, openFault, standing, pointFault, shut, openOf, encodeOf, closeOf}
+use Rattle.encode.specs.Calls.{openFault, standing, pointFault, shut, openOf, encodeOf, closeOf}
 use Rattle.encode.proofs.CallLaws.{standing-faults, point-faults}
-use Rattle.series.specs.Sittings.{Offers, noted, offersOf}
+use Rattle.series.specs.Sittings.{noted, offersOf}
 use Rattle.series.specs.Promises.{NeverOpeneds}
 
 module _ (c : ℕ) where

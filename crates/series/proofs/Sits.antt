@@ -1,14 +1,13 @@
 -- An encoder amid a sitting: what each offer does, by induction over the offers.
-use mathlib.Core.Path.{_≡_, refl, sym, ap, ap₂, _∙_, subst}
+use mathlib.Core.Path.{_≡_, refl, sym, ap, ap₂, _∙_}
 use mathlib.Core.Bool.{Bool}
 use mathlib.Core.List.{List, [], _∷_, _++_, append-assoc, append-nil}
-use Prim.Native.Nat.{ℕ, _+_, _*_, _^_, _≤_, _<_}
+use Prim.Native.Nat.{ℕ, _+_, _^_, _<_}
 use native.Mathlib.Nat.{zero-add}
 use native.Mathlib.Omega.{arith}
 use lib.Pow.{pow-pos}
 use lib.ListN.{length, length-append}
 use Rattle.stream.specs.Bits.{replaced}
-use Rattle.stream.specs.Refusals.{byFault}
 use Rattle.stream.specs.Calls.{Told, given, refused}
 use Rattle.stream.proofs.Writes.{writes-leave}
 use Rattle.stream.proofs.Numbers.{length-bitsOf}
@@ -16,10 +15,10 @@ use Rattle.stream.proofs.Outcomes.{either, or-none, by-none, by-some}
 use Rattle.layout.specs.Writing.{Point, Progress, begun, going, startBits, pointBits, stateAfter, firstState, laterState, opened, Fitting}
 use Rattle.layout.specs.Promises.{Every}
 use Rattle.encode.specs.States.{Enc, progressBy, progress}
-use Rattle.encode.specs.Calls.{Outcome, openFault, roomFault, standing, pointFault, fresh, after, openOf, encodeOf}
+use Rattle.encode.specs.Calls.{openFault, roomFault, standing, pointFault, fresh, after, openOf, encodeOf}
 use Rattle.encode.proofs.CallLaws.{stands-as, accepted}
 use Rattle.encode.proofs.Standing.{stands-on}
-use Rattle.series.specs.Sittings.{Offers, noted, offersOf, ruling, accepts, rulings}
+use Rattle.series.specs.Sittings.{offersOf, ruling, accepts, rulings}
 
 module _ (c : ℕ) where
   -- the bits of points, one after the other, and how far the series is behind them

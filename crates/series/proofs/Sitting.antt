@@ -2,25 +2,22 @@
 use mathlib.Core.Path.{_≡_, refl, sym, ap, ap₂, _∙_}
 use mathlib.Core.Bool.{Bool, true, false}
 use mathlib.Core.List.{List, [], _∷_, _++_, append-assoc}
-use Prim.Native.Nat.{ℕ, zero, suc, _+_, _-_, _*_, _≤_, _<_}
+use Prim.Native.Nat.{ℕ, _+_, _*_, _≤_, _<_}
 use native.Mathlib.Nat.{zero-add}
 use native.Mathlib.Omega.{arith}
-use lib.ListN.{length, take, drop, replicate, length-append, length-replicate}
-use lib.Seq.{take-at, drop-at}
-use Rattle.stream.specs.Bits.{bits, bytesFor, edge, spare, padded, laid, replaced}
+use lib.ListN.{length, drop, replicate, length-append, length-replicate}
+use Rattle.stream.specs.Bits.{bytesFor, edge, spare, padded, laid, replaced}
 use Rattle.stream.specs.Calls.{given, refused}
-use Rattle.stream.specs.Promises.{AreBytes}
 use Rattle.stream.proofs.Writes.{edge-le}
 use Rattle.stream.proofs.Outcomes.{either, none-holds, by-none, by-some}
-use Rattle.stream.proofs.Bytes.{length-bits, bits-inj, bytes-are-bits}
 use Rattle.layout.specs.Writing.{Point, Progress, going, timeFault, startBits, marker, pointBits, stateAfter, restBits, opened, streamBits, Fitting, Accepted}
 use Rattle.layout.specs.Promises.{Every}
-use Rattle.layout.proofs.Sizes.{sizes, empty-size}
+use Rattle.layout.proofs.Sizes.{sizes}
 use Rattle.encode.specs.States.{Enc, progress}
-use Rattle.encode.specs.Calls.{Outcome, openFault, standing, pointFault, fresh, marked, encodeOf, closeOf}
+use Rattle.encode.specs.Calls.{Outcome, openFault, standing, fresh, marked, encodeOf, closeOf}
 use Rattle.encode.proofs.CallLaws.{length-marker, stands-as, point-faults}
-use Rattle.series.specs.Sittings.{Offers, offersOf, ruling, accepts, rulings, sumOf, satOf, closedOf, takenOf, streamOf}
-use Rattle.series.specs.Promises.{Sitting, Sittings, SittingsBytes, SittingSizes}
+use Rattle.series.specs.Sittings.{Offers, ruling, accepts, rulings, sumOf, satOf, closedOf, takenOf, streamOf}
+use Rattle.series.specs.Promises.{Sittings, SittingSizes}
 use Rattle.series.proofs.Refused.{no-offer, no-close}
 use Rattle.series.proofs.Sits.{written, along, Sits, more, Ends, ends, length-start, opens, first-sits}
 

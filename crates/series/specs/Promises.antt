@@ -2,14 +2,14 @@
 -- has it: the first call is an opening, each later one is given the state that the last one returned, and nobody else alters the bytes.
 use mathlib.Core.Path.{_≡_}
 use mathlib.Core.Bool.{Bool, cond}
-use mathlib.Core.List.{List, [], _∷_, _++_, map}
+use mathlib.Core.List.{List, [], _∷_, _++_}
 use Prim.Native.Nat.{ℕ, _+_, _-_, _*_, _^_, _≤_, _<_}
 use lib.Dec.{ltb}
 use lib.ListN.{length, take, drop, getD, replicate}
 use Rattle.stream.specs.Bits.{bits, bytesFor, padded}
 use Rattle.stream.specs.Calls.{limit, given, refused}
 use Rattle.stream.specs.Promises.{AreBytes}
-use Rattle.layout.specs.Writing.{Point, Progress, going, timeFault, pointBits, opened, Fitting, Accepted}
+use Rattle.layout.specs.Writing.{Point, timeFault, pointBits, opened, Fitting, Accepted}
 use Rattle.layout.specs.Answers.{Reached, position, Answer, anEnd, refusal, answerOf, outcomes, lack}
 use Rattle.layout.specs.Promises.{Every, back, cutTo}
 use Rattle.encode.specs.States.{Enc, progress}

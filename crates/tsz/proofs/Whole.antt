@@ -22,7 +22,7 @@ use Rattle.decode.specs.Calls as decoder
 use Rattle.series.specs.Sittings.{Offers, ruling, rulings, accepts, sumOf, closedOf, takenOf}
 use Rattle.series.specs.Promises.{Sitting, decodes}
 use Rattle.series.specs.ListPromises.{AreOffers}
-use Rattle.series.specs.Lists.{pairs, Packing, onTold, said, Unpacking, behind, onPoint, startingWith, filling, unpacksOf, fillsOf}
+use Rattle.series.specs.Lists.{pairs, Packing, onTold, Unpacking, onPoint, startingWith, filling, unpacksOf, fillsOf}
 use Rattle.series.proofs.Sits.{opens}
 use Rattle.series.proofs.Refused.{never-opened}
 use Rattle.series.proofs.Sitting.{sitting}
@@ -88,19 +88,16 @@ length-pairs [] vs = omega arith
 length-pairs (t ∷ ts) [] = omega arith
 length-pairs (t ∷ ts) (v ∷ vs) = let e = length-pairs ts vs in omega (arith, e)
 
-first-times : (k : ℕ) (ts vs : List ℕ) → k ≤ min (length ts) (length vs) → map (λ (p : Point). p .time) (take k (pairs ts vs)) ≡ take k ts
+-- the first points' times and values are the first of the two lists
+first-entries : (k : ℕ) (ts vs : List ℕ) → k ≤ min (length ts) (length vs)
+    → (map (λ (p : Point). p .time) (take k (pairs ts vs)) ≡ take k ts) × (map (λ (p : Point). p .value) (take k (pairs ts vs)) ≡ take k vs)
 unfolding pairs
-first-times zero ts vs h = refl
-first-times (suc k) [] vs h = absurd (omega arith)
-first-times (suc k) (t ∷ ts) [] h = absurd (omega arith)
-first-times (suc k) (t ∷ ts) (v ∷ vs) h = ap (λ (l : List ℕ). t ∷ l) (first-times k ts vs (omega arith))
-
-first-values : (k : ℕ) (ts vs : List ℕ) → k ≤ min (length ts) (length vs) → map (λ (p : Point). p .value) (take k (pairs ts vs)) ≡ take k vs
-unfolding pairs
-first-values zero ts vs h = refl
-first-values (suc k) [] vs h = absurd (omega arith)
-first-values (suc k) (t ∷ ts) [] h = absurd (omega arith)
-first-values (suc k) (t ∷ ts) (v ∷ vs) h = ap (λ (l : List ℕ). v ∷ l) (first-values k ts vs (omega arith))
+first-entries zero ts vs h = (refl, refl)
+first-entries (suc k) [] vs h = absurd (omega arith)
+first-entries (suc k) (t ∷ ts) [] h = absurd (omega arith)
+first-entries (suc k) (t ∷ ts) (v ∷ vs) h =
+    let e = first-entries k ts vs (omega arith) in
+    (ap (λ (l : List ℕ). t ∷ l) (e .0), ap (λ (l : List ℕ). v ∷ l) (e .1))
 
 -- ---- packing
 
@@ -172,7 +169,7 @@ module _ (start : ℕ) (ts vs l l′ : List ℕ) (b : start < 2 ^ 64) (v : Every
       let g = came-back 6 (length m) (bits m) (take count (pairs ts vs)) (min (length us) (length ws)) 64 (opened 6 start) (decoder.openOf (length m) .1) (omega (arith, size)) (decoded m w e h) in
       let q : answerBehind 6 _ _ (length m) (bits m) ≡ anEnd (length stream) = g .1 ∙ ends-at _ _ (sym (stream-is start (length l) (bits l) (pairs ts vs) z v)) in
       told (length m) (bits m) us ws _ (take count (pairs ts vs)) (length stream) (g .0) q
-      ∙ rw (size, first-times count ts vs few, first-values count ts vs few)
+      ∙ rw (size, first-entries count ts vs few .0, first-entries count ts vs few .1)
 
 -- ---- both
 
