@@ -1,5 +1,5 @@
 -- The cases of what the calls answer.
-use mathlib.Core.Path.{_≡_, refl, ap, _∙_}
+use mathlib.Core.Path.{_≡_, refl, sym, ap, _∙_}
 use mathlib.Core.Bool.{Bool, true, false, not}
 use mathlib.Core.List.{List, []}
 use Prim.Native.Nat.{ℕ, _+_, _-_, _*_, _^_, _≤_, _<_}
@@ -9,11 +9,14 @@ use Rattle.stream.specs.Refusals.{when, byFault}
 use Rattle.stream.specs.Calls.{limit, given, refused}
 use Rattle.layout.specs.Windows.{noDigit}
 use Rattle.layout.specs.Reading.{readNext, readLater}
-use Rattle.layout.specs.Answers.{Reached, pointAt, endAt, wrongAt, refusal, answerOf, step, firstStep}
+use Rattle.layout.specs.Answers.{Reached, pointAt, endAt, wrongAt, answerOf, step, firstStep}
 use Rattle.layout.proofs.Tests.{neither}
-use Rattle.decode.specs.States.{Ending, still, over, Dec, kept}
+use Rattle.decode.specs.declared.std_decoder.Step.{Step}
+use Rattle.decode.specs.declared.std_decoder.Phase.{Phase}
+use Rattle.decode.specs.declared.std_decoder.Phase.the-variants as phase
+use Rattle.decode.specs.States.{tell, Ending, still, over, Dec, kept}
 use Rattle.decode.specs.Calls.{fresh, shut, openOf, stepped, noFit, onward, nextBy, nextOf}
-use Rattle.decode.specs.Parts.{unplaced, comesTo}
+use Rattle.decode.specs.Parts.{unplaced, comesTo, AtOnce}
 use Rattle.decode.specs.Promises.{Misfits, EveryStates}
 
 -- ---- opening
@@ -38,14 +41,14 @@ module _ (c : ℕ) where
     otherwise = λ a b e. simp (eq-eqb n (d .len) a, le-ltb limit (d .len) b, le-ltb (8 * d .len) (d .at) e);
   }
 
-  pub fit-gives : (d : Dec) (n : ℕ) → noFit c d n ≡ false → (n ≤ limit) × (d .window .lead + d .window .trail ≤ 2 ^ c - 1)
+  pub fit-gives : (d : Dec) (n : ℕ) → noFit c d n ≡ false → (n ≤ limit) × (d .window .lead + d .window .trail ≤ 2 ^ c - 1) × (d .at ≤ 8 * n) × (d .len ≡ n)
   unfolding noFit noDigit
   fit-gives d n e =
       let a = neither (not (eqb n (d .len))) _ e in
       let b = neither (ltb limit (d .len)) _ (a .1) in
       let w = neither (ltb (8 * d .len) (d .at)) _ (b .1) in
       let same : n ≡ d .len = eqb-true n (d .len) (not-false _ (a .0)) in
-      (rw same (ltb-false limit (d .len) (b .0)), ltb-false _ _ (w .1))
+      (rw same (ltb-false limit (d .len) (b .0)), ltb-false _ _ (w .1), rw same (ltb-false (8 * d .len) (d .at) (w .0)), sym same)
 
 -- ---- a step
 
@@ -79,3 +82,13 @@ every-state c d n s = record {
   thirteen = λ e h. by-ending c d n s still e ∙ rw h;
   goesOn = λ e h. by-ending c d n s still e ∙ rw h;
 }
+
+-- what was answered at once
+module _ (d : Dec) (n : ℕ) (p : Phase) (at : AtOnce d n p) where
+  pub said-at-once : (a : Step) → p ≡ phase.Ended a → (bs : List Bool) → (tell a, d) ≡ nextOf 6 d n bs
+  unfolding AtOnce
+  said-at-once a e = let k : AtOnce d n (phase.Ended a) = rw e at at in k
+
+  pub reads-on : p ≡ phase.Running → (d .ended ≡ still) × (noFit 6 d n ≡ false)
+  unfolding AtOnce
+  reads-on e = let k : AtOnce d n phase.Running = rw e at at in k

@@ -8,15 +8,15 @@ use native.Mathlib.Omega.{arith}
 use lib.Dec.{eqb}
 use lib.IntN.{ℤ}
 use lib.ListN.{drop}
-use Rattle.stream.specs.declared.buffered_read.BufferedReader.{BufferedReader}
 use Rattle.layout.specs.declared.Row.{Row}
 use Rattle.layout.specs.Rows.{row7, longerRows, row32, rows, rowAt, signed}
 use Rattle.layout.specs.Reading.{done, ask, item, timeControl, timeField, ending, Reader, readRow}
 use Rattle.layout.specs.Answers.{Reached, wrongAt}
 use Rattle.layout.proofs.Table.{drop-at, good-at}
+use Rattle.decode.specs.declared.field.Peeked.{Peeked}
 use Rattle.decode.specs.declared.field.Field.{Field}
 use Rattle.decode.specs.declared.field.Field.the-variants as field
-use Rattle.decode.specs.Parts.{GotField, comesTo}
+use Rattle.decode.specs.Parts.{place, GotField, comesTo}
 use Rattle.decode.proofs.Fields.{by-short, by-zero, by-other}
 
 -- the field of a row that is not the last
@@ -59,11 +59,11 @@ module _ (s : List Bool) (p i q : ℕ) (left : RowsLeft s p i q) (h : i < 3) (g 
   pub rows-short : g ≡ field.Short → (f : ℤ → Reader) → wrongAt 7 0 ≡ comesTo (readRow row7 longerRows f) p s
   rows-short e f = by-short _ 1 _ q s g got e ∙ from-here f
 
-  pub rows-here : (b : ℕ) (r : BufferedReader) → g ≡ field.Whole b r → b ≡ 0 → (w : Row) → w ≡ rowAt i
-      → (f : ℤ → Reader) (o : Reached) → o ≡ comesTo (rowField w f) (r .at .0) s → o ≡ comesTo (readRow row7 longerRows f) p s
+  pub rows-here : (b : ℕ) (r : Peeked) → g ≡ field.Whole b r → b ≡ 0 → (w : Row) → w ≡ rowAt i
+      → (f : ℤ → Reader) (o : Reached) → o ≡ comesTo (rowField w f) (place r) s → o ≡ comesTo (readRow row7 longerRows f) p s
   rows-here b r e z w k f o h = (rw k at h) ∙ by-zero _ 1 (rowField (rowAt i) f) _ q s g got b r e z ∙ from-here f
 
-  pub rows-next : (b : ℕ) (r : BufferedReader) → g ≡ field.Whole b r → (b ≡ 0 → ⊥) → RowsLeft s p (i + 1) (r .at .0)
+  pub rows-next : (b : ℕ) (r : Peeked) → g ≡ field.Whole b r → (b ≡ 0 → ⊥) → RowsLeft s p (i + 1) (place r)
   rows-next b r e z f = by-other _ 1 (rowField (rowAt i) f) _ q s g got b r e z ∙ from-here f
 
 pub rows-last : (s : List Bool) (p i q : ℕ) → RowsLeft s p i q → i ≤ 3 → 3 ≤ i → (f : ℤ → Reader)

@@ -1,3 +1,4 @@
+pub mod Peeks
 pub mod Fields
 pub mod Values
 pub mod Dods
@@ -8,3 +9,7 @@ pub mod OneOutcome
 pub mod Holds
 pub mod Along
 pub mod Instances
+pub mod ListInstances
+pub mod Unpacks
+pub mod Later
+pub mod Firsts

@@ -12,7 +12,10 @@ use Rattle.decode.specs.declared.std_decoder.Phase.the-variants as phase
 use Rattle.decode.specs.declared.std_decoder.OpenAnswer.{OpenAnswer}
 use Rattle.decode.specs.declared.std_decoder.OpenAnswer.the-variants as opening
 use Rattle.decode.specs.declared.std_decoder.StdDecoder.{StdDecoder}
+use Rattle.decode.specs.declared.std_decoder.unpack.UnpackAnswer.{UnpackAnswer}
+use Rattle.decode.specs.declared.std_decoder.unpack.UnpackAnswer.the-variants as unpack
 use Rattle.decode.specs.States.{tell, tellOpen, Ending, endingOf, Dec, view}
+use Rattle.decode.specs.Lists.{Stop, tellStop, Filling}
 use Rattle.decode.specs.Promises.{OneOutcome}
 
 -- ---- answers
@@ -64,6 +67,14 @@ by-view s t e =
       r = record { at = record { 0 = e i .at } };
     }
 
+-- ---- lists
+
+stop-told : Tells UnpackAnswer Stop tellStop
+stop-told unpack.Full unpack.Full e = refl
+stop-told unpack.Full (unpack.Stopped b) e = cc
+stop-told (unpack.Stopped a) unpack.Full e = cc
+stop-told (unpack.Stopped a) (unpack.Stopped b) e = let t : tell a ≡ tell b = cc in ap unpack.Stopped (step-told a b t)
+
 -- ---- calls
 
 pub one-outcome : OneOutcome
@@ -76,4 +87,8 @@ one-outcome = record {
       let a = step-told (r .answer) (s .answer) (ap (λ (o : Answer × Dec). o .0) e) in
       let d = by-view (r .decoder) (s .decoder) (ap (λ (o : Answer × Dec). o .1) e) in
       λ i. record { answer = a i; decoder = d i };
+  unpack = λ r s ts us vs ws e.
+      let a = stop-told (r .answer) (s .answer) (ap (λ (o : Filling). o .1) e) in
+      let d = by-view (r .decoder) (s .decoder) (ap (λ (o : Filling). o .2) e) in
+      (λ i. record { given = e i .0; answer = a i; decoder = d i }, ap (λ (o : Filling). o .3) e, ap (λ (o : Filling). o .4) e);
 }

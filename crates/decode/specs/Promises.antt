@@ -10,13 +10,16 @@ use Rattle.layout.specs.Windows.{noDigit}
 use Rattle.layout.specs.Answers.{Answer, refusal, answers}
 use Rattle.decode.specs.declared.std_decoder.Next.{Next}
 use Rattle.decode.specs.declared.std_decoder.Opened.{Opened}
+use Rattle.decode.specs.declared.std_decoder.unpack.Unpacked.{Unpacked}
 use Rattle.decode.specs.States.{still, over, Dec}
 use Rattle.decode.specs.Calls.{toldOpened, toldNext, openOf, stepped, noFit, onward, nextOf, nextsOf}
+use Rattle.decode.specs.Lists.{toldUnpacked}
 
 -- `one-outcome`: no two outcomes meet the statement of a call
 pub record OneOutcome : Type 0 where
   pub «open» : Tells Opened (Told × Dec) toldOpened
   pub next : Tells Next (Answer × Dec) toldNext
+  pub unpack : (r s : Unpacked) (ts us vs ws : List ℕ) → toldUnpacked r ts vs ≡ toldUnpacked s us ws → (r ≡ s) × (ts ≡ us) × (vs ≡ ws)
 
 module _ (c : ℕ) where
   -- `misfits`: when a state does not fit a buffer of n bytes, rule by rule

@@ -10,9 +10,11 @@ ghost use Rattle.layout.specs.Windows.{window};
 ghost use Rattle.layout.specs.Writing.{state};
 ghost use Rattle.layout.specs.Reading.{ask, done, item, valueDigits, point, readMarker, readFirst, readLater, readValue, firstTime, afterDod};
 ghost use Rattle.layout.specs.Answers.{firstStep};
-ghost use Rattle.decode.specs.Parts.{unplaced, comesTo, foundOf};
+ghost use Rattle.decode.specs.Parts.{place, Holds, unplaced, comesTo, stateIn, foundOf, Carried};
 use super::field::Field;
-use super::field::get;
+use super::field::Peeked;
+use super::field::peek;
+use super::field::read;
 use super::timestamp::Dod;
 use super::timestamp::Time;
 use super::timestamp::new_time;
@@ -22,20 +24,6 @@ use super::value::read_next_value;
 use stream::BufferedReader;
 use stream::Refusal;
 
-// A point with what the decoder keeps of it, and the reader behind it.
-pub enum Found {
-    Refused(Refusal),
-    End(BufferedReader),
-    Point {
-        time: u64,
-        delta: u64,
-        bits: u64,
-        lead: u32,
-        trail: u32,
-        r: BufferedReader,
-    },
-}
-
 // What a decoder keeps between two points.
 pub struct Kept {
     pub time: u64,
@@ -43,6 +31,13 @@ pub struct Kept {
     pub bits: u64,
     pub lead: u32,
     pub trail: u32,
+}
+
+// A point, as what is kept of it, and what is behind it.
+pub enum Found {
+    Refused(Refusal),
+    End(BufferedReader),
+    Point(Kept, Peeked),
 }
 
 // The marker 1111 and 32 zeros, behind its first bit.
@@ -64,16 +59,18 @@ fn read_first_value(
     requires { ⌜ length (now buf) ≤ limit ⌝ }
     ensures { λ f. ⌜ foundOf f ≡ comesTo (ask (item valueDigits 0) 64 (λ v. done (point (state time delta v (window lead trail))))) (r .at .0) (bits (now (buf .entry))) ⌝ }
 {
-    match get(r, buf, 64) {
+    match read(r, buf, 64) {
         Field::Short => Found::Refused(Refusal::CutShort),
-        Field::Whole(v, rest) => Found::Point {
-            time: time,
-            delta: delta,
-            bits: v,
-            lead: lead,
-            trail: trail,
-            r: rest,
-        },
+        Field::Whole(v, rest) => {
+            let k = Kept {
+                time,
+                delta,
+                bits: v,
+                lead,
+                trail,
+            };
+            Found::Point(k, rest)
+        }
     }
 }
 
@@ -82,13 +79,13 @@ fn read_first_time(r: BufferedReader, buf: &[u8], start: u64, lead: u32, trail: 
     requires { ⌜ length (now buf) ≤ limit ⌝ }
     ensures { λ f. ⌜ foundOf f ≡ comesTo (firstTime 6 start (window lead trail)) (r .at .0) (bits (now (buf .entry))) ⌝ }
 {
-    let Field::Whole(delta, rest) = get(r, buf, 14) else {
+    let Field::Whole(delta, rest) = read(r, buf, 14) else {
         return Found::Refused(Refusal::CutShort);
     };
     if u64::MAX - start < delta {
         return Found::Refused(Refusal::ReadTimePasses);
     }
-    read_first_value(rest, buf, start + delta, delta, lead, trail)
+    read_first_value(rest.r, buf, start + delta, delta, lead, trail)
 }
 
 // The marker in its place, behind the control bit.
@@ -96,11 +93,12 @@ fn read_marker(r: BufferedReader, buf: &[u8]) -> Found
     requires { ⌜ length (now buf) ≤ limit ⌝ }
     ensures { λ f. ⌜ foundOf f ≡ comesTo readMarker (r .at .0) (bits (now (buf .entry))) ⌝ }
 {
-    let Field::Whole(marker, rest) = get(r, buf, MARKER_REST_LEN) else {
+    let Field::Whole(marker, rest) = read(r, buf, MARKER_REST_LEN) else {
         return Found::Refused(Refusal::CutShort);
     };
     if marker == MARKER_REST {
-        return Found::End(rest);
+        let end = rest.r;
+        return Found::End(end);
     }
     Found::Refused(Refusal::BadEnd)
 }
@@ -110,13 +108,13 @@ fn read_first(r: BufferedReader, buf: &[u8], start: u64, lead: u32, trail: u32) 
     requires { ⌜ length (now buf) ≤ limit ⌝ }
     ensures { λ f. ⌜ foundOf f ≡ comesTo (readFirst 6 start (window lead trail)) (r .at .0) (bits (now (buf .entry))) ⌝ }
 {
-    let Field::Whole(control_bit, rest) = get(r, buf, 1) else {
+    let Field::Whole(control_bit, rest) = read(r, buf, 1) else {
         return Found::Refused(Refusal::CutShort);
     };
     if control_bit == 0 {
-        return read_first_time(rest, buf, start, lead, trail);
+        return read_first_time(rest.r, buf, start, lead, trail);
     }
-    read_marker(rest, buf)
+    read_marker(rest.r, buf)
 }
 
 // The start, then the first point.
@@ -124,19 +122,20 @@ pub(super) fn read_start(r: BufferedReader, buf: &[u8], lead: u32, trail: u32) -
     requires { ⌜ length (now buf) ≤ limit ⌝ }
     ensures { λ f. ⌜ foundOf f ≡ unplaced (firstStep 6 (window lead trail) (r .at .0) (bits (now (buf .entry)))) ⌝ }
 {
-    let Field::Whole(start, rest) = get(r, buf, 64) else {
+    let Field::Whole(start, rest) = read(r, buf, 64) else {
         return Found::Refused(Refusal::NoStart);
     };
-    read_first(rest, buf, start, lead, trail)
+    read_first(rest.r, buf, start, lead, trail)
 }
 
 // ---- a later point
 
 // Its value, behind its time.
-fn read_later_value(r: BufferedReader, buf: &[u8], k: Kept, time: u64, delta: u64) -> Found
+fn read_later_value(r: Peeked, buf: &[u8], k: Kept, time: u64, delta: u64) -> Found
     requires { ⌜ k .lead + k .trail < 64 ⌝ }
     requires { ⌜ length (now buf) ≤ limit ⌝ }
-    ensures { λ f. ⌜ foundOf f ≡ comesTo (readValue 6 (k .bits) (window (k .lead) (k .trail)) (λ w v. done (point (state time delta v w)))) (r .at .0) (bits (now (buf .entry))) ⌝ }
+    requires { ⌜ Holds (bits (now buf)) r ⌝ }
+    ensures { λ f. ⌜ (foundOf f ≡ comesTo (readValue 6 (k .bits) (window (k .lead) (k .trail)) (λ w v. done (point (state time delta v w)))) (place r) (bits (now (buf .entry)))) × Carried (bits (now (buf .entry))) f ⌝ }
 {
     match read_next_value(r, buf, k.bits, k.lead, k.trail) {
         Value::Refused(why) => Found::Refused(why),
@@ -145,23 +144,26 @@ fn read_later_value(r: BufferedReader, buf: &[u8], k: Kept, time: u64, delta: u6
             lead: l,
             trail: t,
             r: rest,
-        } => Found::Point {
-            time: time,
-            delta: delta,
-            bits: v,
-            lead: l,
-            trail: t,
-            r: rest,
-        },
+        } => {
+            let next = Kept {
+                time,
+                delta,
+                bits: v,
+                lead: l,
+                trail: t,
+            };
+            Found::Point(next, rest)
+        }
     }
 }
 
 // Its time, from the dod's field, then its value.
-fn read_later_time(r: BufferedReader, buf: &[u8], k: Kept, raw: u64, n: u32) -> Found
+fn read_later_time(r: Peeked, buf: &[u8], k: Kept, raw: u64, n: u32) -> Found
     requires { ⌜ (1 ≤ n) × (n ≤ 32) × (raw < 2 ^ n) ⌝ }
     requires { ⌜ k .lead + k .trail < 64 ⌝ }
     requires { ⌜ length (now buf) ≤ limit ⌝ }
-    ensures { λ f. ⌜ foundOf f ≡ comesTo (afterDod 6 (state (k .time) (k .delta) (k .bits) (window (k .lead) (k .trail))) (signed n raw)) (r .at .0) (bits (now (buf .entry))) ⌝ }
+    requires { ⌜ Holds (bits (now buf)) r ⌝ }
+    ensures { λ f. ⌜ (foundOf f ≡ comesTo (afterDod 6 (stateIn k) (signed n raw)) (place r) (bits (now (buf .entry)))) × Carried (bits (now (buf .entry))) f ⌝ }
 {
     match new_time(k.time, k.delta, raw, n) {
         Time::Refused(why) => Found::Refused(why),
@@ -169,13 +171,25 @@ fn read_later_time(r: BufferedReader, buf: &[u8], k: Kept, raw: u64, n: u32) -> 
     }
 }
 
+// What is known of the bits behind a reader, with enough of them for a time and a value's head, which have at most 36 and 14, where the buffer has as many.
+fn refilled(p: Peeked, buf: &[u8]) -> Peeked
+    requires { ⌜ Holds (bits (now buf)) p ⌝ }
+    ensures { λ q. ⌜ (place q ≡ place p) × Holds (bits (now (buf .entry))) q ⌝ }
+{
+    if 50 <= p.have {
+        return p;
+    }
+    peek(p.r, buf)
+}
+
 // A point that follows another, or the end.
-pub(super) fn read_later(r: BufferedReader, buf: &[u8], k: Kept) -> Found
+pub(super) fn read_later(r: Peeked, buf: &[u8], k: Kept) -> Found
     requires { ⌜ k .lead + k .trail < 64 ⌝ }
     requires { ⌜ length (now buf) ≤ limit ⌝ }
-    ensures { λ f. ⌜ foundOf f ≡ comesTo (readLater 6 (state (k .time) (k .delta) (k .bits) (window (k .lead) (k .trail)))) (r .at .0) (bits (now (buf .entry))) ⌝ }
+    requires { ⌜ Holds (bits (now buf)) r ⌝ }
+    ensures { λ f. ⌜ (foundOf f ≡ comesTo (readLater 6 (stateIn k)) (place r) (bits (now (buf .entry)))) × Carried (bits (now (buf .entry))) f ⌝ }
 {
-    match read_dod(r, buf) {
+    match read_dod(refilled(r, buf), buf) {
         Dod::Refused(why) => Found::Refused(why),
         Dod::End(rest) => Found::End(rest),
         Dod::Got {

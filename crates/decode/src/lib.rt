@@ -7,3 +7,4 @@ mod timestamp;
 mod value;
 
 pub use std_decoder::StdDecoder;
+pub use std_decoder::unpack::unpack_some;

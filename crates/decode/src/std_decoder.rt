@@ -4,9 +4,10 @@ ghost use mathlib.Core.Path.{_≡_};
 ghost use mathlib.Core.Bool.{false};
 ghost use lib.ListN.{length};
 ghost use Rattle.stream.specs.Bits.{bits};
-ghost use Rattle.decode.specs.States.{tell, view};
+ghost use Rattle.decode.specs.States.{tell, still, dec, view};
 ghost use Rattle.decode.specs.Calls.{toldOpened, toldNext, openOf, ends, stepped, noFit, onward, nextOf};
-ghost use Rattle.decode.specs.Parts.{unplaced, foundOf};
+ghost use Rattle.decode.specs.Parts.{unplaced, stateIn, foundOf, AtOnce};
+use super::field::bare;
 use super::found::Found;
 use super::found::Kept;
 use super::found::read_later;
@@ -18,6 +19,8 @@ use stream::BufferedReader;
 use stream::ByteCount;
 use stream::LIMIT;
 use stream::Refusal;
+
+pub mod unpack;
 
 // What a step answers: a point with the place behind it, the end with the place behind the marker, or a refusal.
 pub enum Step {
@@ -81,6 +84,23 @@ fn no_fit(d: StdDecoder, n: usize) -> bool
     no_digit(d.leading_zeroes, d.trailing_zeroes)
 }
 
+// What a decoder answers without a look at the buffer, which has n bytes: what it ended with, or 13, neither of which changes it. `Running` where
+// it reads on.
+fn at_once(d: StdDecoder, n: usize) -> Phase
+    ensures { λ p. ⌜ AtOnce (view d) n p ⌝ }
+{
+    let phase = d.phase;
+    match phase {
+        Phase::Ended(answer) => Phase::Ended(answer),
+        Phase::Running => {
+            if no_fit(d, n) {
+                return Phase::Ended(Step::Refused(Refusal::NoFit));
+            }
+            Phase::Running
+        }
+    }
+}
+
 // The decoder as it was, with the answer that it ends with.
 fn stop(d: StdDecoder, answer: Step) -> Next
     ensures { λ r. ⌜ toldNext r ≡ ends (view d) (tell answer) ⌝ }
@@ -119,37 +139,40 @@ fn look(d: StdDecoder, buf: &[u8]) -> Found
         lead: lead,
         trail: trail,
     };
-    read_later(r, buf, kept)
+    read_later(bare(r), buf, kept)
+}
+
+// The decoder behind a point.
+fn behind(k: Kept, r: BufferedReader, len: ByteCount) -> StdDecoder
+    ensures { λ d. ⌜ view d ≡ dec (len .0) (r .at .0) (stateIn k) false still ⌝ }
+{
+    StdDecoder {
+        time: k.time,
+        delta: k.delta,
+        value_bits: k.bits,
+        leading_zeroes: k.lead,
+        trailing_zeroes: k.trail,
+        first: false,
+        phase: Phase::Running,
+        len,
+        r,
+    }
 }
 
 // The answer to what was found, and the decoder after it.
 fn take(d: StdDecoder, f: Found) -> Next
     ensures { λ r. ⌜ toldNext r ≡ stepped (view d) (foundOf f) ⌝ }
 {
-    let len = d.len;
     match f {
         Found::Refused(why) => stop(d, Step::Refused(why)),
         Found::End(rest) => stop(d, Step::End(rest.position())),
-        Found::Point {
-            time: t,
-            delta: e,
-            bits: v,
-            lead: l,
-            trail: k,
-            r: rest,
-        } => {
-            let answer = Step::Point(Stored { time: t, bits: v }, rest.position());
-            let decoder = StdDecoder {
-                time: t,
-                delta: e,
-                value_bits: v,
-                leading_zeroes: l,
-                trailing_zeroes: k,
-                first: false,
-                phase: Phase::Running,
-                len,
-                r: rest,
+        Found::Point(k, rest) => {
+            let p = Stored {
+                time: k.time,
+                bits: k.bits,
             };
+            let answer = Step::Point(p, rest.r.position());
+            let decoder = behind(k, rest.r, d.len);
             Next { answer, decoder }
         }
     }
@@ -206,20 +229,13 @@ impl StdDecoder {
     pub fn next(self, buf: &[u8]) -> Next
         ensures { λ r. ⌜ toldNext r ≡ nextOf 6 (view self) (length (now (buf .entry))) (bits (now (buf .entry))) ⌝ }
     {
-        let phase = self.phase;
+        let phase = at_once(self, buf.len());
         match phase {
             Phase::Ended(answer) => Next {
                 answer,
                 decoder: self,
             },
             Phase::Running => {
-                if no_fit(self, buf.len()) {
-                    let answer = Step::Refused(Refusal::NoFit);
-                    return Next {
-                        answer,
-                        decoder: self,
-                    };
-                }
                 let found = look(self, buf);
                 take(self, found)
             }

@@ -12,22 +12,19 @@ ghost use Rattle.stream.specs.Bits.{bits};
 ghost use Rattle.stream.specs.Calls.{limit};
 ghost use Rattle.layout.specs.Rows.{row7, longerRows, row32, signed};
 ghost use Rattle.layout.specs.Reading.{ask, item, timeField, Reader, readRow, readDod, newTime};
-ghost use Rattle.decode.specs.Parts.{comesTo, thenDod, InWidth, thenTime};
+ghost use Rattle.decode.specs.Parts.{place, Holds, comesTo, thenDod, InWidth, thenTime};
 use super::field::Field;
+use super::field::Peeked;
 use super::field::get;
 use layout::row_at;
 use stream::BufferedReader;
 use stream::Refusal;
 
-// A dod's field: its number, its bits, and the reader behind it; or the end.
+// A dod's field: its number, its bits, and what is behind it; or the end.
 pub enum Dod {
     Refused(Refusal),
     End(BufferedReader),
-    Got {
-        raw: u64,
-        width: u32,
-        r: BufferedReader,
-    },
+    Got { raw: u64, width: u32, r: Peeked },
 }
 
 // A time and the delta that led to it.
@@ -37,10 +34,11 @@ pub enum Time {
 }
 
 // The field of a row that is not the last.
-fn row_field(r: BufferedReader, buf: &[u8], width: u32) -> Dod
+fn row_field(r: Peeked, buf: &[u8], width: u32) -> Dod
     requires { ⌜ (1 ≤ width) × (width ≤ 32) ⌝ }
     requires { ⌜ length (now buf) ≤ limit ⌝ }
-    ensures { λ d. ⌜ ((f : ℤ → Reader) → thenDod (bits (now (buf .entry))) d f ≡ comesTo (ask (item timeField 0) width (λ x. f (signed width x))) (r .at .0) (bits (now (buf .entry)))) × InWidth d ⌝ }
+    requires { ⌜ Holds (bits (now buf)) r ⌝ }
+    ensures { λ d. ⌜ ((f : ℤ → Reader) → thenDod (bits (now (buf .entry))) d f ≡ comesTo (ask (item timeField 0) width (λ x. f (signed width x))) (place r) (bits (now (buf .entry)))) × InWidth (bits (now (buf .entry))) d ⌝ }
 {
     match get(r, buf, width) {
         Field::Short => Dod::Refused(Refusal::CutShort),
@@ -53,16 +51,18 @@ fn row_field(r: BufferedReader, buf: &[u8], width: u32) -> Dod
 }
 
 // The field of the last row, in which 0 is the end.
-fn last_field(r: BufferedReader, buf: &[u8]) -> Dod
+fn last_field(r: Peeked, buf: &[u8]) -> Dod
     requires { ⌜ length (now buf) ≤ limit ⌝ }
-    ensures { λ d. ⌜ ((f : ℤ → Reader) → thenDod (bits (now (buf .entry))) d f ≡ comesTo (readRow row32 [] f) (r .at .0) (bits (now (buf .entry)))) × InWidth d ⌝ }
+    requires { ⌜ Holds (bits (now buf)) r ⌝ }
+    ensures { λ d. ⌜ ((f : ℤ → Reader) → thenDod (bits (now (buf .entry))) d f ≡ comesTo (readRow row32 [] f) (place r) (bits (now (buf .entry)))) × InWidth (bits (now (buf .entry))) d ⌝ }
 {
     let last = row_at(3);
     match get(r, buf, last.width) {
         Field::Short => Dod::Refused(Refusal::CutShort),
         Field::Whole(raw, rest) => {
             if raw == 0 {
-                return Dod::End(rest);
+                let end = rest.r;
+                return Dod::End(end);
             }
             Dod::Got {
                 raw: raw,
@@ -74,9 +74,10 @@ fn last_field(r: BufferedReader, buf: &[u8]) -> Dod
 }
 
 // Behind the first control bit: a 0 chooses a row, up to the last, which has none.
-fn read_row(r: BufferedReader, buf: &[u8]) -> Dod
+fn read_row(r: Peeked, buf: &[u8]) -> Dod
     requires { ⌜ length (now buf) ≤ limit ⌝ }
-    ensures { λ d. ⌜ ((f : ℤ → Reader) → thenDod (bits (now (buf .entry))) d f ≡ comesTo (readRow row7 longerRows f) (r .at .0) (bits (now (buf .entry)))) × InWidth d ⌝ }
+    requires { ⌜ Holds (bits (now buf)) r ⌝ }
+    ensures { λ d. ⌜ ((f : ℤ → Reader) → thenDod (bits (now (buf .entry))) d f ≡ comesTo (readRow row7 longerRows f) (place r) (bits (now (buf .entry)))) × InWidth (bits (now (buf .entry))) d ⌝ }
 {
     let mut i: usize = 0;
     let mut behind = r;
@@ -95,9 +96,10 @@ fn read_row(r: BufferedReader, buf: &[u8]) -> Dod
 }
 
 // A dod's control bits and field. The single bit 0 is a dod of 0, which any field holds.
-pub(super) fn read_dod(r: BufferedReader, buf: &[u8]) -> Dod
+pub(super) fn read_dod(r: Peeked, buf: &[u8]) -> Dod
     requires { ⌜ length (now buf) ≤ limit ⌝ }
-    ensures { λ d. ⌜ ((f : ℤ → Reader) → thenDod (bits (now (buf .entry))) d f ≡ comesTo (readDod f) (r .at .0) (bits (now (buf .entry)))) × InWidth d ⌝ }
+    requires { ⌜ Holds (bits (now buf)) r ⌝ }
+    ensures { λ d. ⌜ ((f : ℤ → Reader) → thenDod (bits (now (buf .entry))) d f ≡ comesTo (readDod f) (place r) (bits (now (buf .entry)))) × InWidth (bits (now (buf .entry))) d ⌝ }
 {
     let Field::Whole(bit, rest) = get(r, buf, 1) else {
         return Dod::Refused(Refusal::CutShort);

@@ -13,7 +13,7 @@ use Rattle.layout.specs.Windows.{window, noDigit, unopened, badWindow, reuses, 
 use Rattle.layout.specs.Writing.{pointOf, state, going, timeFault, inRow, rowBits, dodBits, firstBits, laterBits, pointBits, laterState, stateAfter}
 use Rattle.encode.specs.States.{Enc, enc, progressBy, progress}
 use Rattle.encode.specs.Codes.{xorDigits, digitsIn, codeOf}
-use Rattle.encode.specs.Calls.{Outcome, noFit, standing, openFault, roomFault, pointFault, after, encodeOf}
+use Rattle.encode.specs.Calls.{Outcome, noFit, standing, openFault, roomFault, pointFault, encodeOf}
 
 -- after opening on n bytes at 0, and at a place of our own
 abbrev begins : ℕ → ℕ → Bool → Enc

@@ -5,5 +5,8 @@ pub mod Points
 pub mod CallLaws
 pub mod OneOutcome
 pub mod Standing
+pub mod Packs
+pub mod Runs
 pub mod Holding
 pub mod Instances
+pub mod ListInstances

@@ -3,7 +3,7 @@ use mathlib.Core.Path.{_≡_, refl, ap, _∙_}
 use lib.ListN.{length}
 use Rattle.stream.specs.Bits.{bits}
 use Rattle.stream.specs.Refusals.{numberOf}
-use Rattle.stream.specs.Calls.{Told, refused}
+use Rattle.stream.specs.Calls.{Told}
 use Rattle.stream.specs.Promises.{Tells}
 use Rattle.stream.proofs.Bytes.{bits-inj}
 use Rattle.stream.proofs.Outcomes.{by-number, by-some}
@@ -17,6 +17,7 @@ use Rattle.encode.specs.declared.code.CodeAnswer.the-variants as code
 use Rattle.encode.specs.States.{Enc, view}
 use Rattle.encode.specs.Codes.{tellCode}
 use Rattle.encode.specs.Calls.{Outcome, tellEncode, tellClose, openFault, standing, pointFault, openOf, encodeOf, closeOf}
+use Rattle.encode.specs.Lists.{Packing}
 use Rattle.encode.specs.Promises.{OneOutcome, RefusedNothings}
 
 -- ---- answers
@@ -77,6 +78,10 @@ one-outcome = record {
       let v = by-view (r .encoder) (s .encoder) (ap (λ (o : Outcome). o .1) e) in
       (λ i. record { answer = t i; encoder = v i }, bits-inj l m a b (ap (λ (o : Outcome). o .2) e));
   code = code-told;
+  pack = λ r s l m a b e.
+      let t = encode-told (r .answer) (s .answer) (ap (λ (o : Packing). o .1 .0) e) in
+      let v = by-view (r .encoder) (s .encoder) (ap (λ (o : Packing). o .1 .1) e) in
+      (λ i. record { accepted = e i .0; answer = t i; encoder = v i }, bits-inj l m a b (ap (λ (o : Packing). o .1 .2) e));
 }
 
 pub refused-nothing : RefusedNothings

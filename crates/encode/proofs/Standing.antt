@@ -1,21 +1,24 @@
 -- An accepted call hands back a state that stands.
-use mathlib.Core.Path.{_≡_, refl, sym, _∙_}
+use mathlib.Core.Path.{_≡_, refl, sym, ap, _∙_, subst}
 use mathlib.Core.Bool.{Bool, true, false, cond}
-use Prim.Native.Nat.{ℕ, zero, suc, _+_, _-_, _*_, _^_, _≤_, _<_}
+use mathlib.Core.List.{List}
+use Prim.Native.Nat.{ℕ, zero, suc, _+_, _*_, _^_, _≤_, _<_}
 use native.Mathlib.Nat.{zero-lt-suc}
 use native.Mathlib.Omega.{arith}
 use borrow.Author.Tests.{ltb-false}
 use lib.Bits.{bitXor, xor-lt}
 use lib.ListN.{length}
-use Rattle.stream.specs.Calls.{limit}
-use Rattle.stream.proofs.Outcomes.{none-holds, not-when}
+use Rattle.stream.specs.Calls.{limit, Told}
+use Rattle.stream.specs.declared.refusal.Refusal.{Refusal}
+use Rattle.stream.proofs.Outcomes.{either, none-holds, not-when, by-none, by-some}
 use Rattle.layout.specs.Windows.{Window, encoderWindow, badWindow, reuses, tight, windowAfter}
 use Rattle.layout.specs.Writing.{Point, begun, pointBits, firstState, laterState, stateAfter}
 use Rattle.layout.proofs.Tests.{by-bool}
 use Rattle.layout.proofs.Xors.{zeros-lt}
 use Rattle.layout.proofs.Zeros.{bad-windows}
 use Rattle.encode.specs.States.{Enc, kept, progressBy, progress}
-use Rattle.encode.specs.Calls.{openFault, standing, roomFault, pointFault, fresh, after}
+use Rattle.encode.specs.Calls.{Outcome, refusing, openFault, standing, roomFault, pointFault, fresh, after, encodeOf}
+use Rattle.encode.specs.Parts.{refusedBy}
 use Rattle.encode.specs.Promises.{StandsOn}
 use Rattle.encode.proofs.CallLaws.{misfits, standing-faults, stands-as}
 
@@ -70,3 +73,20 @@ module _ (c : ℕ) where
 
   pub stands-on : StandsOn c
   stands-on = record { opened = opened; offered = offered }
+
+-- ---- what an offer hands back, by its outcome
+
+module _ (e : Enc) (n : ℕ) (z : 0 ≡ standing 6 e n) where
+  pub refused-stands : (t : Told) (v : Enc) (r : Refusal) → (t, v) ≡ refusedBy e r → 0 ≡ standing 6 v n
+  unfolding refusedBy
+  refused-stands t v r h = subst (λ (x : Enc). 0 ≡ standing 6 x n) (sym (ap (λ (o : Told × Enc). o .1) h)) z
+
+  pub told-stands : (bs : List Bool) (p : Point) (o : Outcome) → o ≡ encodeOf 6 e n bs p → e .value < 2 ^ 64 → p .value < 2 ^ 64
+      → (o ≡ encodeOf 6 e n bs p) × (0 ≡ standing 6 (o .1) n)
+  unfolding encodeOf
+  told-stands bs p o h u v = (
+    h,
+    either (pointFault 6 e n p)
+        (λ none. subst (λ (x : Outcome). 0 ≡ standing 6 (x .1) n) (sym (h ∙ by-none (pointFault 6 e n p) _ (refusing e bs) none)) (sym (stands-on 6 .offered e n p u v (sym none))))
+        (λ some. subst (λ (x : Outcome). 0 ≡ standing 6 (x .1) n) (sym (h ∙ by-some (pointFault 6 e n p) _ (refusing e bs) some)) z),
+  )

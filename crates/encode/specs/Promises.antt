@@ -17,6 +17,8 @@ use Rattle.encode.specs.declared.code.CodeAnswer.{CodeAnswer}
 use Rattle.encode.specs.States.{Enc, progressBy, progress, view}
 use Rattle.encode.specs.Codes.{tellPoint, tellCode, codeOf}
 use Rattle.encode.specs.Calls.{tellEncode, tellClose, toldEncoded, toldClosing, openFault, noFit, standing, pointFault, shut, fresh, after, openOf, encodeOf, closeOf}
+use Rattle.encode.specs.declared.pack.Packed.{Packed}
+use Rattle.encode.specs.Lists.{toldPacked}
 
 -- `one-outcome`: no two outcomes meet the statement of a call
 pub record OneOutcome : Type 0 where
@@ -24,6 +26,7 @@ pub record OneOutcome : Type 0 where
   pub encode : (r s : Encoded) (l m : List ℕ) → AreBytes l → AreBytes m → toldEncoded r l ≡ toldEncoded s m → (r ≡ s) × (l ≡ m)
   pub close : (r s : Closing) (l m : List ℕ) → AreBytes l → AreBytes m → toldClosing r l ≡ toldClosing s m → (r ≡ s) × (l ≡ m)
   pub code : Tells CodeAnswer Told tellCode
+  pub pack : (r s : Packed) (l m : List ℕ) → AreBytes l → AreBytes m → toldPacked r l ≡ toldPacked s m → (r ≡ s) × (l ≡ m)
 
 -- ---- which refusal is given: the first rule that holds
 

@@ -4,7 +4,9 @@
 pub mod code;
 mod dod;
 pub mod last;
+pub mod pack;
 mod put;
 pub mod std_encoder;
 
+pub use pack::pack_some;
 pub use std_encoder::StdEncoder;

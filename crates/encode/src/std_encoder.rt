@@ -28,15 +28,15 @@ use stream::Refusal;
 
 // As in the Rust, with the buffer's length at opening, and whether it is closed.
 pub struct StdEncoder {
-    time: u64,
-    delta: u64,
-    value_bits: u64,
+    pub(super) time: u64,
+    pub(super) delta: u64,
+    pub(super) value_bits: u64,
     leading_zeroes: u32,
     trailing_zeroes: u32,
-    first: bool,
+    pub(super) first: bool,
     closed: bool,
-    len: ByteCount,
-    w: BufferedWriter,
+    pub(super) len: ByteCount,
+    pub(super) w: BufferedWriter,
 }
 
 // What an opening and a point are answered.
@@ -64,7 +64,7 @@ pub struct Closing {
 }
 
 // Whether a state may go on.
-enum Standing {
+pub(super) enum Standing {
     Clear,
     Refused(Refusal),
 }
@@ -99,7 +99,7 @@ fn no_fit(e: StdEncoder, n: usize) -> bool
 }
 
 // 12, then 13.
-fn standing_of(e: StdEncoder, n: usize) -> Standing
+pub(super) fn standing_of(e: StdEncoder, n: usize) -> Standing
     ensures { λ r. ⌜ faultOf r ≡ standing 6 (view e) n ⌝ }
 {
     if e.closed {
@@ -126,7 +126,7 @@ fn refuse(e: StdEncoder, why: Refusal) -> Encoded
 fn write_point(e: StdEncoder, buf: &mut [u8], p: Stored, k: PointCode) -> Encoded
     requires { ⌜ 0 ≡ standing 6 (view e) (length (now buf)) ⌝ }
     requires { ⌜ Coded (progress (view e)) (pointOf p) k ⌝ }
-    ensures { λ r. ⌜ toldEncoded r (now (buf .exit)) ≡ encodeOf 6 (view e) (length (now (buf .entry))) (bits (now (buf .entry))) (pointOf p) ⌝ }
+    ensures { λ r. ⌜ (toldEncoded r (now (buf .exit)) ≡ encodeOf 6 (view e) (length (now (buf .entry))) (bits (now (buf .entry))) (pointOf p)) × (0 ≡ standing 6 (view (r .encoder)) (length (now (buf .entry)))) ⌝ }
 {
     let delta = p.time - e.time;
     let len = e.len;
@@ -154,10 +154,10 @@ fn write_point(e: StdEncoder, buf: &mut [u8], p: Stored, k: PointCode) -> Encode
     Encoded { answer, encoder }
 }
 
-// A point offered to a state that fits the buffer.
-fn offer(e: StdEncoder, buf: &mut [u8], p: Stored) -> Encoded
+// A point offered to a state that fits the buffer, as the state after it does.
+pub(super) fn offer(e: StdEncoder, buf: &mut [u8], p: Stored) -> Encoded
     requires { ⌜ 0 ≡ standing 6 (view e) (length (now buf)) ⌝ }
-    ensures { λ r. ⌜ toldEncoded r (now (buf .exit)) ≡ encodeOf 6 (view e) (length (now (buf .entry))) (bits (now (buf .entry))) (pointOf p) ⌝ }
+    ensures { λ r. ⌜ (toldEncoded r (now (buf .exit)) ≡ encodeOf 6 (view e) (length (now (buf .entry))) (bits (now (buf .entry))) (pointOf p)) × (0 ≡ standing 6 (view (r .encoder)) (length (now (buf .entry)))) ⌝ }
 {
     let code = code_after(e.last(), p);
     match code {

@@ -1,6 +1,8 @@
 // A point of a series: a time and a value. As people handle it, a float; as the codec keeps it, the float's 64 bits.
 
 ghost use mathlib.Core.Path.{_≡_};
+ghost use Prim.Native.Nat.{min};
+ghost use lib.ListN.{length};
 ghost use Rattle.point.specs.Points.{newOf, sameOf, timeOrder, toStored, toPoint};
 
 // A time and a value, as in the Rust. Round trips are about `Stored`, since a float here keeps no payload of a NaN.
@@ -111,4 +113,16 @@ impl Stored {
         let value = f64::from_bits(b);
         DataPoint { time, value }
     }
+}
+
+// How many points two lists have: as many as the shorter.
+pub fn points_in(times: &[u64], values: &[u64]) -> usize
+    ensures { λ n. ⌜ n ≡ min (length (now (times .entry))) (length (now (values .entry))) ⌝ }
+{
+    let a = times.len();
+    let b = values.len();
+    if a < b {
+        return a;
+    }
+    b
 }

@@ -4,8 +4,4 @@ pub mod Sitting
 pub mod Left
 pub mod Decodes
 pub mod Instances
-pub mod Packs
-pub mod Unpacks
-pub mod ListOutcomes
 pub mod ListPromises
-pub mod ListInstances

@@ -13,10 +13,11 @@ use Rattle.layout.specs.Writing.{Point, pointOf}
 use Rattle.layout.specs.Answers.{Answer, aPoint, anEnd, refusal}
 use Rattle.encode.specs.States.{Enc}
 use Rattle.encode.specs.Calls.{Outcome, refusing, pointFault, encodeOf}
+use Rattle.encode.specs.Lists.{pairs, Packing, oneMore, onTold, packsOf}
 use Rattle.decode.specs.States.{Dec}
 use Rattle.decode.specs.Calls.{nextOf, nextsOf}
 use Rattle.series.specs.Sittings.{offersOf}
-use Rattle.series.specs.Lists.{pairs, Packing, oneMore, onTold, Stop, full, said, Unpacking, behind, onPoint, startingWith, filling, packsOf, unpacksOf, fillsOf}
+use Rattle.decode.specs.Lists.{Stop, full, said, Unpacking, behind, onPoint, startingWith, filling, unpacksOf, fillsOf}
 use Rattle.series.specs.ListPromises.{pointsIn, onFull, preceded, RestKept, RestsKept, afterSteps, AreOffers, PacksAreOffers, AreAnswers, UnpacksAreAnswers, UnpacksGoOn}
 
 -- ---- packing

@@ -1,4 +1,3 @@
 pub mod Sittings
-pub mod Lists
 pub mod Promises
 pub mod ListPromises

@@ -5,22 +5,15 @@ use mathlib.Core.List.{List, [], _∷_, _++_}
 use Prim.Native.Nat.{ℕ, zero, suc, _+_, _≤_, _<_, min}
 use lib.ListN.{length, take, drop, replicate}
 use Rattle.stream.specs.Calls.{given, refused}
-use Rattle.stream.specs.Promises.{AreBytes}
 use Rattle.layout.specs.Writing.{Point, pointOf}
 use Rattle.layout.specs.Answers.{Answer, aPoint, anEnd, refusal}
 use Rattle.encode.specs.States.{Enc}
 use Rattle.encode.specs.Calls.{pointFault}
+use Rattle.encode.specs.Lists.{pairs, Packing, packsOf}
 use Rattle.decode.specs.States.{Dec}
 use Rattle.decode.specs.Calls.{nextOf, nextsOf}
-use Rattle.series.specs.declared.pack.Packed.{Packed}
-use Rattle.series.specs.declared.unpack.Unpacked.{Unpacked}
 use Rattle.series.specs.Sittings.{offersOf}
-use Rattle.series.specs.Lists.{pairs, Packing, toldPacked, Stop, full, said, Unpacking, Filling, toldUnpacked, packsOf, unpacksOf, fillsOf}
-
--- `one-outcome`: no two outcomes meet the statement of a call
-pub record OneOutcome : Type 0 where
-  pub pack : (r s : Packed) (l m : List ℕ) → AreBytes l → AreBytes m → toldPacked r l ≡ toldPacked s m → (r ≡ s) × (l ≡ m)
-  pub unpack : (r s : Unpacked) (ts us vs ws : List ℕ) → toldUnpacked r ts vs ≡ toldUnpacked s us ws → (r ≡ s) × (ts ≡ us) × (vs ≡ ws)
+use Rattle.decode.specs.Lists.{Stop, full, said, Unpacking, Filling, unpacksOf, fillsOf}
 
 -- ---- answers and lists
 

@@ -1,7 +1,1 @@
-// Lists in one call: points offered to an encoder out of two lent lists, and points of a decoder put into them.
-
-pub mod pack;
-pub mod unpack;
-
-pub use pack::pack_some;
-pub use unpack::unpack_some;
+// Whole runs of the calls: this crate has no code, but what is promised of sittings, of decoders and of lists.

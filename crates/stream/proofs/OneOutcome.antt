@@ -2,9 +2,9 @@
 use mathlib.Core.Path.{_≡_, refl, ap}
 use mathlib.Core.Bool.{Bool}
 use mathlib.Core.List.{List}
-use Prim.Native.Nat.{ℕ, _-_}
+use Prim.Native.Nat.{ℕ}
 use Rattle.stream.specs.Refusals.{numberOf}
-use Rattle.stream.specs.Calls.{Told, refused, bitNumber, tellWrite, tellBit, tellByte, tellBits, tellInBits, toldWrite}
+use Rattle.stream.specs.Calls.{Told, refused, bitNumber, tellWrite, tellBit, tellByte, tellBits, tellAhead, tellInBits, toldWrite}
 use Rattle.stream.specs.Promises.{AreBytes, Tells, OneOutcome}
 use Rattle.stream.specs.declared.Bit.{Bit}
 use Rattle.stream.specs.declared.Bit.the-variants.{Zero, One}
@@ -20,6 +20,8 @@ use Rattle.stream.specs.declared.buffered_read.ByteAnswer.{ByteAnswer}
 use Rattle.stream.specs.declared.buffered_read.ByteAnswer.the-variants as byte
 use Rattle.stream.specs.declared.buffered_read.BitsAnswer.{BitsAnswer}
 use Rattle.stream.specs.declared.buffered_read.BitsAnswer.the-variants as many
+use Rattle.stream.specs.declared.buffered_read.Ahead.{Ahead}
+use Rattle.stream.specs.declared.buffered_read.Ahead.the-variants as ahead
 use Rattle.stream.proofs.Bytes.{bits-inj}
 use Rattle.stream.proofs.Outcomes.{by-number}
 
@@ -58,6 +60,12 @@ bits-told (many.Bits x) (many.Refused s) e = cc
 bits-told (many.Refused r) (many.Bits y) e = cc
 bits-told (many.Refused r) (many.Refused s) e = ap many.Refused (refused-once r s e)
 
+ahead-told : Tells Ahead Told tellAhead
+ahead-told ahead.Short ahead.Short e = refl
+ahead-told ahead.Short (ahead.Word w) e = cc
+ahead-told (ahead.Word v) ahead.Short e = cc
+ahead-told (ahead.Word v) (ahead.Word w) e = let n : v ≡ w = cc in ap ahead.Word n
+
 place-told : Tells InBits Told tellInBits
 place-told (inBits.At p) (inBits.At q) e = let n : p .0 ≡ q .0 = cc in λ i. inBits.At (record { 0 = n i })
 place-told (inBits.At p) (inBits.Refused s) e = cc
@@ -95,6 +103,7 @@ one-outcome = record {
       let t = bits-told (r .answer) (s .answer) (answers _ _ _ _ e) in
       let p = places _ _ _ _ e in
       λ i. record { answer = t i; reader = record { at = record { 0 = p i } } };
+  ahead = ahead-told;
   toBits = place-told;
   number = by-number;
   bit = by-bit;

@@ -2,14 +2,15 @@
 use mathlib.Core.Path.{_≡_, refl, sym, ap, _∙_}
 use mathlib.Core.Bool.{Bool, true, false}
 use mathlib.Core.List.{List, [], _∷_}
-use Prim.Native.Nat.{ℕ, zero, suc, _+_, _-_, _*_, _^_, _≤_, _<_}
-use native.Mathlib.Nat.{min-eq-left}
+use Prim.Native.Nat.{ℕ, zero, suc, _+_, _-_, _*_, _/_, _^_, _≤_, _<_}
+use native.Mathlib.Decide.{decLe}
+use native.Mathlib.Nat.{min-eq-left, lt-of-not-le}
 use native.Mathlib.Omega.{arith}
 use borrow.Author.Tests.{ltb-false, lt-ltb, le-ltb}
 use lib.ListN.{length, getD}
 use Rattle.stream.specs.Bits.{bitsOf, valueOf, bits, field, replaced}
 use Rattle.stream.specs.Refusals.{numberOf, when, orElse, byFault}
-use Rattle.stream.specs.Calls.{limit, Told, given, refused, tellBits, width, fieldFault, writeOf, readOf, peekOf, inBitsOf}
+use Rattle.stream.specs.Calls.{limit, Told, given, refused, tellBits, width, fieldFault, writeOf, readOf, peekOf, aheadOf, inBitsOf}
 use Rattle.stream.specs.Fits.{faultOf}
 use Rattle.stream.specs.Promises.{FieldFaults, Tells}
 use Rattle.stream.specs.declared.refusal.Refusal.{Refusal}
@@ -190,3 +191,21 @@ read-lt l p num v q e = got-lt _ _ _ _ _ _ _ e (field-lt (bits l) p (width num))
 pub peeked : (l : List ℕ) (p num q : ℕ) (a : Told) → (a, q) ≡ readOf l p num → (a, p) ≡ peekOf l p num
 unfolding peekOf
 peeked l p num q a e = ap (λ (o : Told × ℕ). (o .0, p)) e
+
+-- ---- the next 64 bits
+
+module _ (l : List ℕ) (p : ℕ) where
+  pub ahead-is : p / 8 + 9 ≤ length l → aheadOf l p ≡ given (valueOf (field (bits l) p 64) ∷ [])
+  unfolding aheadOf
+  ahead-is h = rw (le-ltb (length l) (p / 8 + 9) h)
+
+  pub ahead-none : length l < p / 8 + 9 → aheadOf l p ≡ given []
+  unfolding aheadOf
+  ahead-none h = rw (lt-ltb (length l) (p / 8 + 9) h)
+
+  -- a word that is told is there, and is theirs
+  pub ahead-there : (w : ℕ) → given (w ∷ []) ≡ aheadOf l p → (p / 8 + 9 ≤ length l) × (w ≡ valueOf (field (bits l) p 64))
+  ahead-there w e = elim (decLe (p / 8 + 9) (length l)) [
+    | yes h ↦ let o = e ∙ ahead-is h in let x : w ≡ valueOf (field (bits l) p 64) = cc in (h, x)
+    | no h ↦ let o = e ∙ ahead-none (lt-of-not-le h) in let z : _≡_ {A = ℕ} 0 1 = cc in absurd (omega arith)
+  ]

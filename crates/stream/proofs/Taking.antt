@@ -35,13 +35,13 @@ field-add bs p a b = rw (take-add a b (drop p bs), drop-drop a p bs)
 
 -- its value, the value of the high part and that of the low part
 module _ (bs : List Bool) (p a b : ℕ) (h : p + (a + b) ≤ length bs) where
-  field-both : valueOf (field bs p (a + b)) ≡ valueOf (field bs p a) * 2 ^ b + valueOf (field bs (p + a) b)
+  pub field-both : valueOf (field bs p (a + b)) ≡ valueOf (field bs p a) * 2 ^ b + valueOf (field bs (p + a) b)
   field-both = rw (field-add bs p a b, value-append (field bs p a) (field bs (p + a) b), length-field bs (p + a) b (omega arith))
 
-  field-high : valueOf (field bs p (a + b)) / 2 ^ b ≡ valueOf (field bs p a)
+  pub field-high : valueOf (field bs p (a + b)) / 2 ^ b ≡ valueOf (field bs p a)
   field-high = rw field-both (high (valueOf (field bs p a)) b (field-lt bs (p + a) b))
 
-  field-low : valueOf (field bs p (a + b)) % 2 ^ b ≡ valueOf (field bs (p + a) b)
+  pub field-low : valueOf (field bs p (a + b)) % 2 ^ b ≡ valueOf (field bs (p + a) b)
   field-low = rw field-both (low (valueOf (field bs p a)) b (field-lt bs (p + a) b))
 
 -- ---- within one byte
@@ -133,7 +133,7 @@ word-room bs i k v e l =
     omega arith
 
 -- `w << k` in r + k digits
-shl-mod : (w r k : ℕ) → w * 2 ^ k % 2 ^ (r + k) ≡ w % 2 ^ r * 2 ^ k
+pub shl-mod : (w r k : ℕ) → w * 2 ^ k % 2 ^ (r + k) ≡ w % 2 ^ r * 2 ^ k
 shl-mod w r k =
     let none : w * 2 ^ k % 2 ^ k ≡ 0 = ap (λ (n : ℕ). n % 2 ^ k) (sym (add-zero (w * 2 ^ k))) ∙ low w k (pow-pos k) in
     mod-pow-add (w * 2 ^ k) r k ∙ ap₂ (λ (a b : ℕ). a % 2 ^ r * 2 ^ k + b) (shl-shr w k) none ∙ add-zero (w % 2 ^ r * 2 ^ k)

@@ -1,7 +1,7 @@
 -- What the calls of the bit writer and the bit reader tell, and what a write leaves: document 01, "Port order", 2.
-use mathlib.Core.Bool.{Bool}
+use mathlib.Core.Bool.{Bool, cond}
 use mathlib.Core.List.{List, [], _∷_}
-use Prim.Native.Nat.{ℕ, _+_, _*_, min}
+use Prim.Native.Nat.{ℕ, _+_, _*_, _/_, min}
 use lib.ListN.{length}
 use lib.Dec.{ltb}
 use Rattle.stream.specs.Bits.{bitsOf, valueOf, bits, field, replaced}
@@ -18,6 +18,8 @@ use Rattle.stream.specs.declared.buffered_read.ByteAnswer.{ByteAnswer}
 use Rattle.stream.specs.declared.buffered_read.ByteAnswer.the-variants as byte
 use Rattle.stream.specs.declared.buffered_read.BitsAnswer.{BitsAnswer}
 use Rattle.stream.specs.declared.buffered_read.BitsAnswer.the-variants as many
+use Rattle.stream.specs.declared.buffered_read.Ahead.{Ahead}
+use Rattle.stream.specs.declared.buffered_read.Ahead.the-variants as ahead
 use Rattle.stream.specs.declared.buffered_write.Written.{Written}
 use Rattle.stream.specs.declared.buffered_read.BitRead.{BitRead}
 use Rattle.stream.specs.declared.buffered_read.ByteRead.{ByteRead}
@@ -52,6 +54,10 @@ tellByte (byte.Refused r) = refused (numberOf r)
 abbrev pub tellBits : BitsAnswer → Told
 tellBits (many.Bits v) = given (v ∷ [])
 tellBits (many.Refused r) = refused (numberOf r)
+
+abbrev pub tellAhead : Ahead → Told
+tellAhead ahead.Short = given []
+tellAhead (ahead.Word w) = given (w ∷ [])
 
 abbrev pub tellInBits : InBits → Told
 tellInBits (inBits.At p) = given (p .0 ∷ [])
@@ -99,6 +105,10 @@ readOf l p num =
 -- a peek is a read that does not move
 unfoldable pub peekOf : List ℕ → ℕ → ℕ → Told × ℕ
 peekOf l p num = (readOf l p num .0, p)
+
+-- the 64 bits at p, where that byte and eight more are there; nothing elsewhere
+unfoldable pub aheadOf : List ℕ → ℕ → Told
+aheadOf l p = given (cond (ltb (length l) (p / 8 + 9)) [] (valueOf (field (bits l) p 64) ∷ []))
 
 -- the position behind n bytes: 5 above the limit
 unfoldable pub inBitsOf : ℕ → Told

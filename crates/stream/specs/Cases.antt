@@ -1,11 +1,11 @@
 -- Worked cases of bits, bytes and calls.
 use mathlib.Core.Path.{_≡_}
 use mathlib.Core.Bool.{Bool, true, false}
-use mathlib.Core.List.{List, [], _∷_, map}
+use mathlib.Core.List.{List, [], _∷_, _++_, map}
 use Prim.Native.Nat.{ℕ, _-_, _^_}
 use lib.ListN.{replicate}
 use Rattle.stream.specs.Bits.{bitsOf, valueOf, bits, padded}
-use Rattle.stream.specs.Calls.{Told, given, refused, fieldFault, writeOf, readOf, peekOf, inBitsOf}
+use Rattle.stream.specs.Calls.{Told, given, refused, fieldFault, writeOf, readOf, peekOf, aheadOf, inBitsOf}
 
 pub data Case : Type 0 where
   -- the n low digits of a number
@@ -21,6 +21,8 @@ pub data Case : Type 0 where
   -- a read of num bits at p, and a peek
   reads : (l : List ℕ) (p num : ℕ) (expected : Told) (then : ℕ) → Case
   peeks : (l : List ℕ) (p num : ℕ) (expected : Told) (then : ℕ) → Case
+  -- the 64 bits at p, where nine bytes are there
+  aheads : (l : List ℕ) (p : ℕ) (expected : Told) → Case
   -- the position behind n bytes
   behind : (n : ℕ) (expected : Told) → Case
 
@@ -45,6 +47,7 @@ seen (fault s len p n e) = number (fieldFault s len p n) ∷ []
 seen (writes l p x num t q m) = seenWrite (writeOf l p x num)
 seen (reads l p num t q) = seenRead (readOf l p num) ∷ []
 seen (peeks l p num t q) = seenRead (peekOf l p num) ∷ []
+seen (aheads l p t) = place (aheadOf l p) ∷ []
 seen (behind n t) = place (inBitsOf n) ∷ []
 
 unfoldable pub expected : Case → List Seen
@@ -55,6 +58,7 @@ expected (fault s len p n e) = number e ∷ []
 expected (writes l p x num t q m) = answer t q ∷ bitList (bits m) ∷ []
 expected (reads l p num t q) = answer t q ∷ []
 expected (peeks l p num t q) = answer t q ∷ []
+expected (aheads l p t) = place t ∷ []
 expected (behind n t) = place t ∷ []
 
 unfoldable pub cases : List Case
@@ -88,6 +92,10 @@ cases =
     ∷ reads (0xE6 ∷ 0x80 ∷ []) 9 8 (refused 7) 9
     ∷ peeks (0xE6 ∷ 0x80 ∷ []) 9 8 (refused 7) 9
     ∷ reads (0xE6 ∷ []) 9 0 (refused 13) 9
+    -- 64 bits at once, out of nine bytes; none out of eight, or of nine at the second
+    ∷ aheads (replicate 8 0xFF ++ (0x00 ∷ [])) 4 (given ((2 ^ 64 - 16) ∷ []))
+    ∷ aheads (replicate 8 0xFF) 0 (given [])
+    ∷ aheads (replicate 9 0xFF) 8 (given [])
     -- the refusals in order: 5, then 13, then the field's; at the limit there is none
     ∷ fault 1 16777217 134217737 1 5
     ∷ fault 7 16777217 0 0 5

@@ -6,7 +6,7 @@ use Prim.Native.Nat.{ℕ, _+_, _*_, _/_, _%_, _^_, _≤_, _<_}
 use lib.ListN.{length, take, drop, getD, replicate}
 use Rattle.stream.specs.Bits.{bitsOf, valueOf, bits, edge, spare, field, replaced}
 use Rattle.stream.specs.Refusals.{numberOf}
-use Rattle.stream.specs.Calls.{limit, Told, given, bitNumber, tellInBits, toldWrite, toldBit, toldByte, toldBits, width, fieldFault, writeOf, readOf}
+use Rattle.stream.specs.Calls.{limit, Told, given, bitNumber, tellAhead, tellInBits, toldWrite, toldBit, toldByte, toldBits, width, fieldFault, writeOf, readOf}
 use Rattle.stream.specs.declared.Bit.{Bit}
 use Rattle.stream.specs.declared.refusal.Refusal.{Refusal}
 use Rattle.stream.specs.declared.position.BitPos.{BitPos}
@@ -15,6 +15,7 @@ use Rattle.stream.specs.declared.position.InBits.{InBits}
 use Rattle.stream.specs.declared.buffered_write.BufferedWriter.{BufferedWriter}
 use Rattle.stream.specs.declared.buffered_write.Written.{Written}
 use Rattle.stream.specs.declared.buffered_read.BufferedReader.{BufferedReader}
+use Rattle.stream.specs.declared.buffered_read.Ahead.{Ahead}
 use Rattle.stream.specs.declared.buffered_read.BitRead.{BitRead}
 use Rattle.stream.specs.declared.buffered_read.ByteRead.{ByteRead}
 use Rattle.stream.specs.declared.buffered_read.BitsRead.{BitsRead}
@@ -107,6 +108,7 @@ pub record OneOutcome : Type 0 where
   pub readBit : Tells BitRead (Told × ℕ) toldBit
   pub readByte : Tells ByteRead (Told × ℕ) toldByte
   pub readBits : Tells BitsRead (Told × ℕ) toldBits
+  pub ahead : Tells Ahead Told tellAhead
   pub toBits : Tells InBits Told tellInBits
   pub number : Tells Refusal ℕ numberOf
   pub bit : Tells Bit ℕ bitNumber

@@ -2,12 +2,13 @@
 
 ghost use mathlib.Core.Path.{_≡_};
 ghost use Prim.Native.Nat.{_<_};
-ghost use Rattle.stream.specs.Calls.{bitNumber, toldBit, toldByte, toldBits, readOf, peekOf};
+ghost use Rattle.stream.specs.Calls.{bitNumber, toldBit, toldByte, toldBits, readOf, peekOf, tellAhead, aheadOf};
 use super::Bit;
 use super::field::Fit;
 use super::field::fit_of;
 use super::field::width_of;
 use super::get::get_field;
+use super::get::word_from;
 use super::position::BitPos;
 use super::refusal::Refusal;
 
@@ -32,6 +33,12 @@ pub enum ByteAnswer {
 pub enum BitsAnswer {
     Bits(u64),
     Refused(Refusal),
+}
+
+// The next 64 bits, or that the nine bytes in which they may lie are not all there.
+pub enum Ahead {
+    Short,
+    Word(u64),
 }
 
 // The answer of a read of one bit, and the reader after it: behind the field, or where it stood if the read was refused.
@@ -59,6 +66,13 @@ impl BufferedReader {
     {
         let at = BitPos(0);
         BufferedReader { at }
+    }
+
+    // A reader at any place.
+    pub fn at(place: BitPos) -> Self
+        ensures { λ r. ⌜ r .at ≡ place ⌝ }
+    {
+        BufferedReader { at: place }
     }
 
     // Where the next bit comes from.
@@ -143,6 +157,17 @@ impl BufferedReader {
         let at = self.at;
         let reader = BufferedReader { at };
         BitsRead { answer, reader }
+    }
+
+    // The next 64 bits at once, for whoever reads several fields out of them; near the buffer's end there is `read_bits`.
+    pub fn ahead(self, buf: &[u8]) -> Ahead
+        ensures { λ r. ⌜ tellAhead r ≡ aheadOf (now (buf .entry)) (self .at .0) ⌝ }
+    {
+        let p = self.at.0;
+        if p / 8 + 9 <= buf.len() {
+            return Ahead::Word(word_from(buf, p));
+        }
+        Ahead::Short
     }
 }
 

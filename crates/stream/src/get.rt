@@ -49,7 +49,7 @@ fn word(buf: &[u8], i: usize) -> u64
 }
 
 // The 64 bits from bit at on, which lie in nine bytes.
-fn ahead(buf: &[u8], at: usize) -> u64
+pub(super) fn word_from(buf: &[u8], at: usize) -> u64
     requires { ⌜ at / 8 + 9 ≤ length (now buf) ⌝ }
     ensures { λ r. ⌜ r ≡ valueOf (field (bits (now (buf .entry))) at 64) ⌝ }
 {
@@ -99,7 +99,7 @@ pub(super) fn get_field(buf: &[u8], at: usize, n: usize) -> u64
 {
     if 0 < n {
         if at / 8 + 9 <= buf.len() {
-            return ahead(buf, at) >> (64 - n);
+            return word_from(buf, at) >> (64 - n);
         }
     }
     get_bytes(buf, at, n)

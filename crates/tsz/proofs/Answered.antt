@@ -16,7 +16,7 @@ use Rattle.layout.specs.Promises.{placeOf}
 use Rattle.decode.specs.States.{Ending, still, over, Dec}
 use Rattle.decode.specs.Calls as decoder
 use Rattle.decode.proofs.Along.{opened-answers}
-use Rattle.series.specs.Lists.{Stop, full, said, Unpacking, behind, onPoint, filling, unpacksOf, fillsOf}
+use Rattle.decode.specs.Lists.{Stop, full, said, Unpacking, behind, onPoint, filling, unpacksOf, fillsOf}
 use Rattle.series.specs.ListPromises.{pointsIn, AreAnswers}
 use Rattle.series.proofs.ListPromises.{unpacks-are-answers, rest-kept}
 use Rattle.tsz.specs.Files.{saying, sayingAt, answerBehind, telling, unpackedOf}

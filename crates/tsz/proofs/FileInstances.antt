@@ -13,8 +13,9 @@ use Rattle.layout.specs.Answers.{reached, answerOf, step, afterStart, firstStep
 use Rattle.layout.specs.Cases.{m2, m3}
 use Rattle.encode.specs.States.{progressBy}
 use Rattle.encode.specs.Calls as encoder
+use Rattle.encode.specs.Lists.{pairs, onTold, packsOf}
 use Rattle.decode.specs.Calls as decoder
-use Rattle.series.specs.Lists.{pairs, onTold, onPoint, startingWith, filling, packsOf, unpacksOf, fillsOf}
+use Rattle.decode.specs.Lists.{onPoint, startingWith, filling, unpacksOf, fillsOf}
 use Rattle.tsz.specs.Files.{saying, faultIn, usedIn, PackLeaves, closing, packedOf, sayingAt, answerBehind, UnpackLeaves, telling, unpackedOf}
 
 -- 143 bits take 18 bytes

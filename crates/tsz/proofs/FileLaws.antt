@@ -1,8 +1,10 @@
 -- The two calls, put together from what their parts state.
-use mathlib.Core.Path.{_≡_, sym, ap, ap₂, _∙_}
+use mathlib.Core.Path.{_≡_, refl, sym, ap, ap₂, _∙_}
 use mathlib.Core.Bool.{Bool}
 use mathlib.Core.List.{List, [], _∷_}
 use Prim.Native.Nat.{ℕ}
+use native.Mathlib.Omega.{arith}
+use lib.ListN.{length}
 use Rattle.stream.specs.Bits.{bytesFor}
 use Rattle.stream.specs.Refusals.{numberOf}
 use Rattle.stream.specs.Calls.{Told}
@@ -11,20 +13,21 @@ use Rattle.stream.specs.declared.position.BitPos.{BitPos}
 use Rattle.stream.specs.declared.position.ByteCount.{ByteCount}
 use Rattle.point.specs.declared.Stored.{Stored}
 use Rattle.layout.specs.Writing.{Point}
-use Rattle.layout.specs.Answers.{Answer}
+use Rattle.layout.specs.Answers.{Answer, aPoint, anEnd, refusal}
 use Rattle.encode.specs.declared.std_encoder.EncodeAnswer.{EncodeAnswer}
 use Rattle.encode.specs.declared.std_encoder.EncodeAnswer.the-variants as encode
 use Rattle.encode.specs.declared.std_encoder.CloseAnswer.{CloseAnswer}
 use Rattle.encode.specs.declared.std_encoder.CloseAnswer.the-variants as close
 use Rattle.encode.specs.States.{Enc}
 use Rattle.encode.specs.Calls as encoder
+use Rattle.encode.specs.Lists.{Packing, onTold, packsOf}
 use Rattle.decode.specs.declared.std_decoder.Step.{Step}
 use Rattle.decode.specs.declared.std_decoder.Step.the-variants as step
 use Rattle.decode.specs.States.{tell, Dec}
 use Rattle.decode.specs.Calls as decoder
-use Rattle.series.specs.declared.unpack.UnpackAnswer.{UnpackAnswer}
-use Rattle.series.specs.declared.unpack.UnpackAnswer.the-variants as answer
-use Rattle.series.specs.Lists.{Packing, onTold, packsOf, Stop, tellStop, fillsOf}
+use Rattle.decode.specs.declared.std_decoder.unpack.UnpackAnswer.{UnpackAnswer}
+use Rattle.decode.specs.declared.std_decoder.unpack.UnpackAnswer.the-variants as answer
+use Rattle.decode.specs.Lists.{Stop, full, said, tellStop, Unpacking, behind, onPoint, Filling, filling, unpacksOf, fillsOf}
 use Rattle.tsz.specs.Files.{saying, faultIn, usedIn, PackLeaves, closing, packedOf, sayingAt, answerBehind, telling, unpackedOf}
 
 -- ---- what is said
@@ -79,14 +82,44 @@ passed-on w s bs x e h = ap (λ (y : List ℕ). (y, bs)) e ∙ h
 
 -- ---- unpacking
 
-module _ (a : UnpackAnswer) (d : Dec) (n : ℕ) (bs : List Bool) where
-  pub behind-stop : (b : Step) → a ≡ answer.Stopped b → tell b ≡ answerBehind 6 (tellStop a) d n bs
+-- why a list of one entry has no more points, by the next answer x
+unfoldable stopOf : Answer → Dec → Stop
+stopOf x d = onPoint {A = Unpacking} x (λ p. behind p ([], full, d)) ([], said x, d) .1
+
+module _ (k q : ℕ) (d : Dec) where
+  by-stop : (x : Answer) (b : Step) → said (tell b) ≡ stopOf x d → sayingAt k q (tell b) ≡ sayingAt k q x
+  unfolding stopOf onPoint
+  by-stop (aPoint t v p) b e = let z : _≡_ {A = ℕ} 0 1 = cc in absurd (omega arith)
+  by-stop (anEnd p) b e = let z : tell b ≡ anEnd p = cc in ap (sayingAt k q) z
+  by-stop (refusal r) b e = let z : tell b ≡ refusal r = cc in ap (sayingAt k q) z
+
+  by-full : (x : Answer) (t v p : ℕ) → full ≡ stopOf x d → sayingAt k q (aPoint t v p) ≡ sayingAt k q x
+  unfolding stopOf onPoint sayingAt
+  by-full (aPoint t′ v′ p′) t v p e = refl
+  by-full (anEnd p′) t v p e = let z : _≡_ {A = ℕ} 0 1 = cc in absurd (omega arith)
+  by-full (refusal r) t v p e = let z : _≡_ {A = ℕ} 0 1 = cc in absurd (omega arith)
+
+module _ (d : Dec) (n : ℕ) (bs : List Bool) (i : ℕ) (a : UnpackAnswer) (d′ : Dec) (us ws ts vs : List ℕ)
+    (e : (i, tellStop a, d′, us, ws) ≡ fillsOf 6 d n bs ts vs) (one : length ts ≡ 1) (also : length vs ≡ 1) where
+  stop-here : tellStop a ≡ stopOf (decoder.nextOf 6 d n bs .0) (decoder.nextOf 6 d n bs .1)
+  unfolding fillsOf filling unpacksOf stopOf
+  stop-here = ap (λ (f : Filling). f .1) e ∙ rw (one, also) refl
+
+  pub more-stop : (b : Step) → a ≡ answer.Stopped b → (k q : ℕ) → sayingAt k q (tell b) ≡ sayingAt k q (decoder.nextOf 6 d n bs .0)
+  more-stop b z k q = by-stop k q _ (decoder.nextOf 6 d n bs .0) b (sym (ap tellStop z) ∙ stop-here)
+
+  pub more-full : (t v p : ℕ) → a ≡ answer.Full → (k q : ℕ) → sayingAt k q (aPoint t v p) ≡ sayingAt k q (decoder.nextOf 6 d n bs .0)
+  more-full t v p z k q = by-full k q _ (decoder.nextOf 6 d n bs .0) t v p (sym (ap tellStop z) ∙ stop-here)
+
+module _ (a : UnpackAnswer) (d : Dec) (n : ℕ) (bs : List Bool) (k q : ℕ) where
+  pub behind-stop : (b : Step) → a ≡ answer.Stopped b → sayingAt k q (tell b) ≡ sayingAt k q (answerBehind 6 (tellStop a) d n bs)
   unfolding answerBehind
   behind-stop b e = rw e
 
-  pub behind-full : (b : Answer) (d′ : Dec) → (b, d′) ≡ decoder.nextOf 6 d n bs → a ≡ answer.Full → b ≡ answerBehind 6 (tellStop a) d n bs
+  pub behind-full : (b : Answer) → sayingAt k q b ≡ sayingAt k q (decoder.nextOf 6 d n bs .0) → a ≡ answer.Full
+      → sayingAt k q b ≡ sayingAt k q (answerBehind 6 (tellStop a) d n bs)
   unfolding answerBehind
-  behind-full b d′ h e = rw e (ap (λ (o : Answer × Dec). o .0) h)
+  behind-full b h e = rw e h
 
 module _ (s : List ℕ) (k q : ℕ) (a : Step) where
   pub said-end : (b : BitPos) → s ≡ saying 0 k (b .0) → a ≡ step.End b → s ≡ sayingAt k q (tell a)
@@ -102,7 +135,7 @@ module _ (s : List ℕ) (k q : ℕ) (a : Step) where
   said-short p b h e = rw e h
 
 pub unpacked : (w s : List ℕ) (k q n : ℕ) (a : Answer) (t : Stop) (u : Told) (d d′ : Dec) (bs : List Bool) (ts ts′ vs vs′ : List ℕ)
-    → (u, d) ≡ decoder.openOf n → (k, t, d′, ts′, vs′) ≡ fillsOf 6 d n bs ts vs → a ≡ answerBehind 6 t d′ n bs → q ≡ d′ .at → s ≡ sayingAt k q a → w ≡ s
+    → (u, d) ≡ decoder.openOf n → (k, t, d′, ts′, vs′) ≡ fillsOf 6 d n bs ts vs → ((i j : ℕ) → sayingAt i j a ≡ sayingAt i j (answerBehind 6 t d′ n bs)) → q ≡ d′ .at → s ≡ sayingAt k q a → w ≡ s
     → (w, ts′, vs′) ≡ unpackedOf 6 n bs ts vs
 unfolding unpackedOf telling
-unpacked w s k q n a t u d d′ bs ts ts′ vs vs′ o f h j g z = rw (← o, ← f, z, g, h, j)
+unpacked w s k q n a t u d d′ bs ts ts′ vs vs′ o f h j g z = rw (← o, ← f, z, g, h k q, j)

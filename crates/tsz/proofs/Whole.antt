@@ -17,12 +17,13 @@ use Rattle.layout.specs.Answers.{anEnd}
 use Rattle.layout.specs.Promises.{Every, back}
 use Rattle.encode.specs.States.{Enc}
 use Rattle.encode.specs.Calls as encoder
+use Rattle.encode.specs.Lists.{pairs, Packing, onTold}
 use Rattle.decode.specs.States.{Dec}
 use Rattle.decode.specs.Calls as decoder
 use Rattle.series.specs.Sittings.{Offers, ruling, rulings, accepts, sumOf, closedOf, takenOf}
 use Rattle.series.specs.Promises.{Sitting, decodes}
 use Rattle.series.specs.ListPromises.{AreOffers}
-use Rattle.series.specs.Lists.{pairs, Packing, onTold, Unpacking, onPoint, startingWith, filling, unpacksOf, fillsOf}
+use Rattle.decode.specs.Lists.{Unpacking, onPoint, startingWith, filling, unpacksOf, fillsOf}
 use Rattle.series.proofs.Sits.{opens}
 use Rattle.series.proofs.Refused.{never-opened}
 use Rattle.series.proofs.Sitting.{sitting}

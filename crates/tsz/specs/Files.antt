@@ -8,10 +8,11 @@ use Rattle.stream.specs.Calls.{Told, given, refused}
 use Rattle.layout.specs.Writing.{Point}
 use Rattle.layout.specs.Answers.{Answer, aPoint, anEnd, refusal}
 use Rattle.encode.specs.Calls as encoder
+use Rattle.encode.specs.Lists.{Packing, onTold, packsOf}
 use Rattle.decode.specs.States.{Dec}
 use Rattle.decode.specs.Calls as decoder
 use Rattle.tsz.specs.declared.said.Said.{Said}
-use Rattle.series.specs.Lists.{Packing, onTold, packsOf, Stop, full, said, Filling, fillsOf}
+use Rattle.decode.specs.Lists.{Stop, full, said, Filling, fillsOf}
 
 -- ---- the four numbers said: the refusal, 0 for none; the points; the bits, and the bytes that hold them
 

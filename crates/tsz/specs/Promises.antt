@@ -11,7 +11,8 @@ use Rattle.layout.specs.Writing.{Point, streamBits, Fitting}
 use Rattle.layout.specs.Answers.{Answer, anEnd, answers}
 use Rattle.layout.specs.Promises.{Every, placeOf}
 use Rattle.encode.specs.Calls as encoder
-use Rattle.series.specs.Lists.{pairs, Packing, startingWith, packsOf}
+use Rattle.encode.specs.Lists.{pairs, Packing, packsOf}
+use Rattle.decode.specs.Lists.{startingWith}
 use Rattle.series.specs.ListPromises.{pointsIn}
 use Rattle.tsz.specs.Files.{saying, faultIn, PackLeaves, packedOf, sayingAt, UnpackLeaves, unpackedOf}
 

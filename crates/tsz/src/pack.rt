@@ -6,15 +6,15 @@ ghost use lib.ListN.{length};
 ghost use Rattle.stream.specs.Bits.{bits};
 ghost use Rattle.encode.specs.States.{view};
 ghost use Rattle.encode.specs.Calls.{tellEncode, tellClose};
-ghost use Rattle.series.specs.Lists.{pairs, packsOf};
+ghost use Rattle.encode.specs.Lists.{pairs, packsOf};
 ghost use Rattle.tsz.specs.Files.{saidOf, faultIn, usedIn, closing, packedOf};
 use super::said::Said;
 use super::said::said_at;
 use super::said::say;
 use encode::StdEncoder;
+use encode::pack_some;
 use encode::std_encoder::CloseAnswer;
 use encode::std_encoder::EncodeAnswer;
-use series::pack_some;
 use stream::BitPos;
 
 // The refusal in an answer, 0 for none.

@@ -1,30 +1,45 @@
 // A series out of lent bytes.
 
 ghost use mathlib.Core.Path.{_≡_};
+ghost use Prim.Native.Nat.{ℕ};
 ghost use lib.ListN.{length};
 ghost use Rattle.stream.specs.Bits.{bits};
 ghost use Rattle.decode.specs.States.{tell, view};
-ghost use Rattle.series.specs.Lists.{tellStop};
+ghost use Rattle.decode.specs.Calls.{nextOf};
+ghost use Rattle.decode.specs.Lists.{tellStop};
 ghost use Rattle.tsz.specs.Files.{saidOf, sayingAt, answerBehind, unpackedOf};
 use super::said::Said;
 use super::said::said_at;
 use super::said::say;
 use decode::StdDecoder;
 use decode::std_decoder::Step;
-use series::unpack::UnpackAnswer;
-use series::unpack_some;
+use decode::std_decoder::unpack::UnpackAnswer;
+use decode::unpack_some;
+use point::Stored;
 use stream::BitPos;
+
+// The next answer; where that is a point, some point stands for it. It is asked for by the call over lists once more: with a second place that calls a step,
+// the compiler would no longer build the step into that call's loop.
+fn one_more(decoder: StdDecoder, src: &[u8]) -> Step
+    ensures { λ r. ⌜ ((k q : ℕ) → sayingAt k q (tell r) ≡ sayingAt k q (nextOf 6 (view decoder) (length (now (src .entry))) (bits (now (src .entry))) .0)) ⌝ }
+{
+    let mut times = [0u64; 1];
+    let mut values = [0u64; 1];
+    let more = unpack_some(decoder, src, &mut times, &mut values);
+    let answer = more.answer;
+    match answer {
+        UnpackAnswer::Stopped(step) => step,
+        UnpackAnswer::Full => Step::Point(Stored { time: 0, bits: 0 }, BitPos::new(0)),
+    }
+}
 
 // The answer behind the points given; where the lists are full, one step more is asked.
 fn answer_behind(answer: UnpackAnswer, decoder: StdDecoder, src: &[u8]) -> Step
-    ensures { λ r. ⌜ tell r ≡ answerBehind 6 (tellStop answer) (view decoder) (length (now (src .entry))) (bits (now (src .entry))) ⌝ }
+    ensures { λ r. ⌜ ((k q : ℕ) → sayingAt k q (tell r) ≡ sayingAt k q (answerBehind 6 (tellStop answer) (view decoder) (length (now (src .entry))) (bits (now (src .entry))))) ⌝ }
 {
     match answer {
         UnpackAnswer::Stopped(step) => step,
-        UnpackAnswer::Full => {
-            let next = decoder.next(src);
-            next.answer
-        }
+        UnpackAnswer::Full => one_more(decoder, src),
     }
 }
 

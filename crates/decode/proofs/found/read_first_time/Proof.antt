@@ -9,8 +9,8 @@ use Rattle.decode.proofs.Fields.{by-short, by-whole}
 use Rattle.decode.proofs.found.read_first_time.Statement.{statement}
 use Rattle.decode.proofs.found.read_first_time.Tie as tie
 
-get-requires : tie.Need-get-requires
-get-requires c κs = search needs
+read-requires : tie.Need-read-requires
+read-requires c κs = search needs
 
 enum-known-delta : tie.Need-enum-known-delta
 enum-known-delta c = search needs
@@ -20,14 +20,14 @@ enum-told c = search needs
 
 returns : tie.Need-returns
 unfolding foundOf firstTime
-returns c = by-short _ _ _ _ _ _ (c .before .before .get .ensures) (c .enum-told .given .1)
+returns c = by-short _ _ _ _ _ _ (c .before .before .read .ensures) (c .enum-told .given .1)
 
 sub-if1 : tie.Need-sub-if1
 sub-if1 c = search needs
 
 returns-2 : tie.Need-returns-2
 unfolding foundOf firstTime
-returns-2 c = time-passes _ _ _ _ (pos _) _ refl (omega arith) ∙ by-whole _ _ _ _ _ _ (c .before .before .before .before .get .ensures) _ _ (c .before .before .delta .given .1)
+returns-2 c = time-passes _ _ _ _ (pos _) _ refl (omega arith) ∙ by-whole _ _ _ _ _ _ (c .before .before .before .before .read .ensures) _ _ (c .before .before .delta .given .1)
 
 add-read-first-value : tie.Need-add-read-first-value
 add-read-first-value c = search needs
@@ -37,13 +37,13 @@ read-first-value-requires c κs = search needs
 
 returns-3 : tie.Need-returns-3
 unfolding firstTime
-returns-3 c = c .read-first-value .ensures ∙ time-got _ _ _ _ (pos _) _ refl (omega arith) ∙ by-whole _ _ _ _ _ _ (c .before .before .before .before .before .get .ensures) _ _ (c .before .before .before .delta .given .1)
+returns-3 c = c .read-first-value .ensures ∙ time-got _ _ _ _ (pos _) _ refl (omega arith) ∙ by-whole _ _ _ _ _ _ (c .before .before .before .before .before .read .ensures) _ _ (c .before .before .before .delta .given .1)
 
 pub read-first-time-spec : {M : Type 1} → statement M
 read-first-time-spec =
     tie.close
     (tie.spec
-    get-requires
+    read-requires
     enum-known-delta
     enum-told
     returns

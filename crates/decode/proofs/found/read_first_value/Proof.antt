@@ -5,8 +5,8 @@ use Rattle.decode.proofs.Fields.{by-short, by-whole, done-point}
 use Rattle.decode.proofs.found.read_first_value.Statement.{statement}
 use Rattle.decode.proofs.found.read_first_value.Tie as tie
 
-get-requires : tie.Need-get-requires
-get-requires c κs = search needs
+read-requires : tie.Need-read-requires
+read-requires c κs = search needs
 
 enum-told : tie.Need-enum-told
 enum-told c = search needs
@@ -16,11 +16,11 @@ enum-known-v c = search needs
 
 returns : tie.Need-returns
 unfolding foundOf
-returns c = by-short _ _ _ _ _ _ (c .before .before .get .ensures) (c .enum-told .given .1)
+returns c = by-short _ _ _ _ _ _ (c .before .before .read .ensures) (c .enum-told .given .1)
 
 returns-2 : tie.Need-returns-2
 unfolding foundOf
-returns-2 c = done-point _ _ _ ∙ by-whole _ _ _ _ _ _ (c .before .before .before .get .ensures) _ _ (c .before .v .given .1)
+returns-2 c = done-point _ _ _ ∙ by-whole _ _ _ _ _ _ (c .before .before .before .read .ensures) _ _ (c .before .v .given .1)
 
 pub read-first-value-spec : {M : Type 1} → statement M
-read-first-value-spec = tie.close (tie.spec get-requires enum-told enum-known-v returns returns-2)
+read-first-value-spec = tie.close (tie.spec read-requires enum-told enum-known-v returns returns-2)

@@ -1,7 +1,7 @@
 use borrow.Author.Needs.{needs}
 use mathlib.Core.Path.{_∙_}
-use Rattle.decode.specs.Parts.{thenValue, foundOf}
-use Rattle.decode.proofs.Steps.{value-case}
+use Rattle.decode.specs.Parts.{thenValue, foundOf, Carried}
+use Rattle.decode.proofs.Steps.{value-case, value-holds}
 use Rattle.decode.proofs.Fields.{done-point}
 use Rattle.decode.proofs.found.read_later_value.Statement.{statement}
 use Rattle.decode.proofs.found.read_later_value.Tie as tie
@@ -16,12 +16,15 @@ enum-known-v : tie.Need-enum-known-v
 enum-known-v c = search needs
 
 returns : tie.Need-returns
-unfolding foundOf thenValue
-returns c = value-case _ _ _ _ _ (c .before .why .given .1) (c .before .before .before .read-next-value .ensures _)
+unfolding foundOf thenValue Carried
+returns c = (value-case _ _ _ _ _ (c .before .why .given .1) (c .before .before .before .read-next-value .ensures .0 _), tt)
 
 returns-2 : tie.Need-returns-2
-unfolding foundOf thenValue
-returns-2 c = done-point _ _ _ ∙ value-case _ _ _ _ _ (c .before .v .given .1) (c .before .before .before .read-next-value .ensures _)
+unfolding foundOf thenValue Carried
+returns-2 c = (
+  done-point _ _ _ ∙ value-case _ _ _ _ _ (c .before .v .given .1) (c .before .before .before .read-next-value .ensures .0 _),
+  value-holds _ _ (c .before .before .before .read-next-value .ensures .1) _ _ _ _ (c .before .v .given .1),
+)
 
 pub read-later-value-spec : {M : Type 1} → statement M
 read-later-value-spec =

@@ -27,6 +27,9 @@ enum-known-f-3 c = search needs
 position-requires-2 : tie.Need-position-requires-2
 position-requires-2 c κs = search needs
 
+behind-requires : tie.Need-behind-requires
+behind-requires c κs = search needs
+
 returns : tie.Need-returns
 unfolding stepped foundOf answerOf
 returns c = rw (c .before .before .f .given .1) (c .stop .ensures)
@@ -37,7 +40,7 @@ returns-2 c = rw (c .before .before .before .f2 .given .1) (rw (c .before .posit
 
 returns-3 : tie.Need-returns-3
 unfolding stepped foundOf answerOf
-returns-3 c = rw (c .before .before .f3 .given .1, c .position2 .ensures) refl
+returns-3 c = rw (c .before .before .before .f3 .given .1, c .before .position2 .ensures, c .behind .ensures) refl
 
 pub take-spec : {M : Type 1} → statement M
 take-spec =
@@ -50,6 +53,7 @@ take-spec =
     stop-requires-2
     enum-known-f-3
     position-requires-2
+    behind-requires
     returns
     returns-2
     returns-3)

@@ -5,7 +5,7 @@ use lib.Dec.{lit≤, lit<}
 use Rattle.layout.specs.Reading.{readDod}
 use Rattle.layout.specs.Rows.{signed}
 use Rattle.decode.specs.Parts.{thenDod, InWidth}
-use Rattle.decode.proofs.Fields.{by-short, by-zero, by-other}
+use Rattle.decode.proofs.Fields.{by-short, by-zero, by-other, whole-holds}
 use Rattle.decode.proofs.timestamp.read_dod.Statement.{statement}
 use Rattle.decode.proofs.timestamp.read_dod.Tie as tie
 
@@ -24,10 +24,10 @@ returns c = (λ f. by-short _ _ _ _ _ _ (c .before .before .get .ensures) (c .en
 
 returns-2 : tie.Need-returns-2
 unfolding thenDod InWidth readDod signed
-returns-2 c = (λ f. by-zero _ _ _ _ _ _ _ (c .before .before .before .before .get .ensures) _ _ (c .before .before .bit .given .1) (omega arith), (lit≤ tt, lit≤ tt, lit< tt))
+returns-2 c = (λ f. by-zero _ _ _ _ _ _ _ (c .before .before .before .before .get .ensures) _ _ (c .before .before .bit .given .1) (omega arith), (lit≤ tt, lit≤ tt, lit< tt, whole-holds _ _ _ _ (c .before .before .before .before .get .ensures) _ _ (c .before .before .bit .given .1)))
 
 read-row-requires : tie.Need-read-row-requires
-read-row-requires c κs = search needs
+read-row-requires c κs = (search needs, whole-holds _ _ _ _ (c .before .before .before .before .get .ensures) _ _ (c .before .before .bit .given .1))
 
 returns-3 : tie.Need-returns-3
 unfolding readDod

@@ -3,19 +3,20 @@ use mathlib.Core.Path.{_∙_}
 use Prim.Native.Nat.{_-_, _≤_}
 use native.Mathlib.Omega.{arith}
 use Rattle.stream.specs.Bits.{bits}
-use Rattle.decode.specs.Parts.{thenDod, InWidth}
+use Rattle.decode.specs.Parts.{place, Holds, thenDod, InWidth}
 use Rattle.decode.proofs.Dods.{row-width, RowsLeft, rows-first, rows-short, rows-here, rows-next, rows-last}
+use Rattle.decode.proofs.Fields.{whole-holds}
 use Rattle.decode.proofs.timestamp.read_row.Statement.{statement}
 use Rattle.decode.proofs.timestamp.read_row.Tie as tie
 
 abbrev Inv-loop : tie.InvT-loop
-Inv-loop buf i₀ behind₀ i behind = (i ≤ 3) × RowsLeft (bits buf) (behind₀ .at .0) i (behind .at .0)
+Inv-loop buf i₀ behind₀ i behind = (i ≤ 3) × RowsLeft (bits buf) (place behind₀) i (place behind) × Holds (bits buf) behind
 
 abbrev μ-loop : tie.MeasureT-loop
 μ-loop buf i₀ behind₀ i behind = 3 - i
 
 loop-holds : tie.Need-loop-holds Inv-loop μ-loop
-loop-holds c = (search needs, rows-first _ _)
+loop-holds c = (search needs, rows-first _ _, search needs)
 
 get-requires : tie.Need-get-requires Inv-loop μ-loop
 get-requires c κs = search needs
@@ -36,7 +37,7 @@ row-at-requires : tie.Need-row-at-requires Inv-loop μ-loop
 row-at-requires c κs = search needs
 
 row-field-requires : tie.Need-row-field-requires Inv-loop μ-loop
-row-field-requires c κs = (row-width _ _ (c .row-at .ensures), search needs)
+row-field-requires c κs = (row-width _ _ (c .row-at .ensures), (search needs, whole-holds _ _ _ _ (c .before .before .before .before .before .get .ensures) _ _ (c .before .before .before .bit .given .1)))
 
 returns-2 : tie.Need-returns-2 Inv-loop μ-loop
 returns-2 c =
@@ -54,7 +55,7 @@ loop-less c = search needs
 loop-again : tie.Need-loop-again Inv-loop μ-loop
 loop-again c =
     let loop = c .before .before .before .before .before .before .loop in
-    (omega arith, rows-next _ _ (loop .i) _ (loop .inv .1) (omega arith) _ (c .before .before .before .before .get .ensures) _ _ (c .before .before .bit .given .1) (omega arith))
+    (omega arith, rows-next _ _ (loop .i) _ (loop .inv .1) (omega arith) _ (c .before .before .before .before .get .ensures) _ _ (c .before .before .bit .given .1) (omega arith), whole-holds _ _ _ _ (c .before .before .before .before .get .ensures) _ _ (c .before .before .bit .given .1))
 
 last-field-requires : tie.Need-last-field-requires Inv-loop μ-loop
 last-field-requires c κs = search needs

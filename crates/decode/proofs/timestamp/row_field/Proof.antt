@@ -1,6 +1,6 @@
 use borrow.Author.Needs.{needs}
 use Rattle.decode.specs.Parts.{thenDod, InWidth}
-use Rattle.decode.proofs.Fields.{by-short, by-whole, whole-lt}
+use Rattle.decode.proofs.Fields.{by-short, by-whole, whole-lt, whole-holds}
 use Rattle.decode.proofs.timestamp.row_field.Statement.{statement}
 use Rattle.decode.proofs.timestamp.row_field.Tie as tie
 
@@ -21,7 +21,7 @@ returns-2 : tie.Need-returns-2
 unfolding thenDod InWidth
 returns-2 c = (
   λ f. by-whole _ _ _ _ _ _ (c .before .before .before .get .ensures) _ _ (c .before .raw .given .1),
-  (search needs, search needs, whole-lt _ _ _ _ (c .before .before .before .get .ensures) _ _ (c .before .raw .given .1)),
+  (search needs, search needs, whole-lt _ _ _ _ (c .before .before .before .get .ensures) _ _ (c .before .raw .given .1), whole-holds _ _ _ _ (c .before .before .before .get .ensures) _ _ (c .before .raw .given .1)),
 )
 
 pub row-field-spec : {M : Type 1} → statement M

@@ -1,9 +1,9 @@
 use borrow.Author.Needs.{needs}
 use native.Mathlib.Omega.{arith}
 use Rattle.layout.specs.Reading.{readDigits}
-use Rattle.decode.specs.Parts.{thenValue}
+use Rattle.decode.specs.Parts.{thenValue, Behind}
+use Rattle.decode.proofs.Fields.{by-short, whole-holds}
 use Rattle.decode.proofs.Values.{digits-read}
-use Rattle.decode.proofs.Fields.{by-short}
 use Rattle.decode.proofs.value.read_digits.Statement.{statement}
 use Rattle.decode.proofs.value.read_digits.Tie as tie
 
@@ -13,8 +13,8 @@ sub-size c = search needs
 sub-size-2 : tie.Need-sub-size-2
 sub-size-2 c = search needs
 
-get-requires : tie.Need-get-requires
-get-requires c κs = search needs
+get-digits-requires : tie.Need-get-digits-requires
+get-digits-requires c κs = search needs
 
 enum-told : tie.Need-enum-told
 enum-told c = search needs
@@ -26,16 +26,25 @@ shl-xor : tie.Need-shl-xor
 shl-xor c = search needs
 
 returns : tie.Need-returns
-unfolding thenValue readDigits
-returns c f = by-short _ _ _ _ _ _ (c .before .before .get .ensures) (c .enum-told .given .1)
+unfolding thenValue Behind readDigits
+returns c = (λ f. by-short _ _ _ _ _ _ (c .before .before .get-digits .ensures) (c .enum-told .given .1), tt)
 
 returns-2 : tie.Need-returns-2
-unfolding thenValue
-returns-2 c f =
-    let a = c .before .before .before .before .before .args in
-    digits-read _ _ (a .previous) (a .lead) (a .trail) _ (c .before .before .before .get .ensures) _ _ (c .before .x .given .1) (omega arith) f
+unfolding thenValue Behind
+returns-2 c = let a = c .before .before .before .before .before .args in (
+  λ f. digits-read _ _ (a .previous) (a .lead) (a .trail) _ (c .before .before .before .get-digits .ensures) _ _ (c .before .x .given .1) (omega arith) f,
+  (whole-holds _ _ _ _ (c .before .before .before .get-digits .ensures) _ _ (c .before .x .given .1), omega arith),
+)
 
 pub read-digits-spec : {M : Type 1} → statement M
 read-digits-spec =
     tie.close
-    (tie.spec sub-size sub-size-2 get-requires enum-told enum-known-x shl-xor returns returns-2)
+    (tie.spec
+    sub-size
+    sub-size-2
+    get-digits-requires
+    enum-told
+    enum-known-x
+    shl-xor
+    returns
+    returns-2)

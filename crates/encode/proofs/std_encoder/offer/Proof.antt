@@ -1,6 +1,7 @@
 use Rattle.encode.specs.States.{view}
 use Rattle.encode.proofs.CallLaws.{with-bits, refused-time}
 use Rattle.encode.proofs.Points.{last-meets}
+use Rattle.encode.proofs.Standing.{refused-stands}
 use Rattle.encode.specs.Parts.{Meets}
 use mathlib.Core.Path.{_∙_}
 use borrow.Author.Needs.{needs}
@@ -29,9 +30,11 @@ write-point-requires c κs = (search needs, last-meets (view (c .before .before 
 returns : tie.Need-returns
 unfolding Meets
 returns c =
-    let s = c .before .before .before .before .before .before .before in
-    with-bits _ _ _ _ _ (c .refuse .ensures)
-    ∙ refused-time 6 _ _ _ _ (c .before .before .code .given .0 .0) (s .pre) (last-meets (view (s .args .e)) _ (c .before .before .before .before .before .last .ensures) _ _ _ (c .before .before .before .before .code-after .ensures) (c .before .before .code .given .1))
+    let s = c .before .before .before .before .before .before .before in (
+      with-bits _ _ _ _ _ (c .refuse .ensures)
+          ∙ refused-time 6 _ _ _ _ (c .before .before .code .given .0 .0) (s .pre) (last-meets (view (s .args .e)) _ (c .before .before .before .before .before .last .ensures) _ _ _ (c .before .before .before .before .code-after .ensures) (c .before .before .code .given .1)),
+      refused-stands _ _ (s .pre) _ _ _ (c .refuse .ensures),
+    )
 
 same-length : tie.Need-same-length
 same-length c = search needs

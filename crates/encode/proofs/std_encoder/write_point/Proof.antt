@@ -2,6 +2,7 @@ use native.Mathlib.Omega.{arith}
 use borrow.Author.Needs.{needs}
 use Rattle.encode.proofs.CallLaws.{stands-as, no-room, written}
 use Rattle.encode.proofs.Points.{rises}
+use Rattle.encode.proofs.Standing.{told-stands}
 use Rattle.encode.proofs.std_encoder.write_point.Statement.{statement}
 use Rattle.encode.proofs.std_encoder.write_point.Tie as tie
 
@@ -47,7 +48,11 @@ refuse-requires : tie.Need-refuse-requires
 refuse-requires c κs = search needs
 
 returns : tie.Need-returns
-returns c = let s = c .before .before .before .before .before .before .before .before .before .before .before in no-room _ _ _ _ (s .args .k) (s .pre .0) (s .pre .1) _ _ (c .refuse .ensures) (omega arith)
+returns c =
+    let s = c .before .before .before .before .before .before .before .before .before .before .before in
+    let e = c .before .before .before .before .before .before .before .before .struct-known2 .given in
+    let p = c .before .before .before .before .before .before .before .before .before .struct-known .given in
+    told-stands _ _ (s .pre .0) _ _ _ (no-room _ _ _ _ (s .args .k) (s .pre .0) (s .pre .1) _ _ (c .refuse .ensures) (omega arith)) (e .1 .1 .0 .fits) (p .1 .0 .fits)
 
 put-point-requires : tie.Need-put-point-requires
 put-point-requires c κs =
@@ -63,7 +68,9 @@ returns-2 : tie.Need-returns-2
 returns-2 c =
     let s = c .before .before .before .before .before .before .before .before .before .before .before .before .before .before in
     let p = c .before .before .put-point .ensures in
-    written _ _ _ _ (s .args .k) (s .pre .0) (s .pre .1) _ _ (p .0) (omega arith) (p .1)
+    let e = c .before .before .before .before .before .before .before .before .before .before .before .struct-known2 .given in
+    let q = c .before .before .before .before .before .before .before .before .before .before .before .before .struct-known .given in
+    told-stands _ _ (s .pre .0) _ _ _ (written _ _ _ _ (s .args .k) (s .pre .0) (s .pre .1) _ _ (p .0) (omega arith) (p .1)) (e .1 .1 .0 .fits) (q .1 .0 .fits)
 
 pub write-point-spec : {M : Type 1} → statement M
 write-point-spec =

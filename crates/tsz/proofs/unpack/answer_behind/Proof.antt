@@ -9,15 +9,15 @@ enum-known-answer c = search needs
 enum-told : tie.Need-enum-told
 enum-told c = search needs
 
-next-requires : tie.Need-next-requires
-next-requires c κs = search needs
+one-more-requires : tie.Need-one-more-requires
+one-more-requires c κs = search needs
 
 returns : tie.Need-returns
-returns c = behind-stop _ _ _ _ _ (c .before .answer .given .1)
+returns c k q = behind-stop _ _ _ _ k q _ (c .before .answer .given .1)
 
 returns-2 : tie.Need-returns-2
-returns-2 c = behind-full _ _ _ _ _ _ (c .next .ensures) (c .before .enum-told .given .1)
+returns-2 c k q = behind-full _ _ _ _ k q _ (c .one-more .ensures k q) (c .before .enum-told .given .1)
 
 pub answer-behind-spec : {M : Type 1} → statement M
 answer-behind-spec =
-    tie.close (tie.spec enum-known-answer enum-told next-requires returns returns-2)
+    tie.close (tie.spec enum-known-answer enum-told one-more-requires returns returns-2)
