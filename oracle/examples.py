@@ -152,6 +152,8 @@ def unpack_said(what, data, entries):
 def demo():
     two = [(10, 0), (20, ONE)]
     m4, stream = pack_said("pack", two, 32)
+    many = [(10 * number, ONE) for number in range(1, 101)]
+    repeat, long = pack_said("points that repeat", many, 48)
     falls, before = pack_said("a time that falls", [(10, 0), (9, 0), (20, 0)], 32)
     return "".join([
         m4,
@@ -168,6 +170,11 @@ def demo():
         falls,
         unpack_said("what was packed before it", before, 3),
         pack_said("12 bytes", two, 12)[0],
+        repeat,
+        " ".join("%02x" % byte for byte in long) + "\n",
+        unpack_said("unpack them", long, 100),
+        "%d %016x\n" % many[-1],
+        pack_said("into 40 bytes", many, 40)[0],
         pack_said("pack into %d bytes" % LIMIT, two, LIMIT)[0],
         pack_said("pack into %d bytes" % (LIMIT + 1), two, LIMIT + 1)[0],
         # no entries: the bytes behind the stream make no difference
