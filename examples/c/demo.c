@@ -32,6 +32,27 @@ static uint64_t bits_of(double x)
     return bits;
 }
 
+/* A hundred points with one value at one distance, two bits each behind the first; and as many of them as 40 bytes hold. */
+static void tell_repeated(void)
+{
+    enum { MANY = 100 };
+    uint64_t times[MANY], values[MANY], t[MANY], v[MANY], said[4];
+    uint8_t out[48];
+
+    for (int i = 0; i < MANY; i++) {
+        times[i] = 10 * (uint64_t)(i + 1);
+        values[i] = bits_of(1.0);
+    }
+    tsz_pack(0, times, MANY, values, MANY, out, sizeof out, said);
+    tell("points that repeat", said);
+    tell_bytes(out, said[3]);
+    tsz_unpack(out, said[3], t, MANY, v, MANY, said);
+    tell("unpack them", said);
+    tell_points(t + MANY - 1, v + MANY - 1, 1);
+    tsz_pack(0, times, MANY, values, MANY, out, 40, said);
+    tell("into 40 bytes", said);
+}
+
 /* The longest buffer there may be, and one byte more. */
 static void tell_limit(const uint64_t *times, const uint64_t *values)
 {
@@ -103,6 +124,7 @@ int main(void)
     tsz_pack(0, times, 2, values, 2, out, 12, said);
     tell("12 bytes", said);
 
+    tell_repeated();
     tell_limit(times, values);
     return 0;
 }

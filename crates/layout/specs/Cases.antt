@@ -1,6 +1,6 @@
 -- Document 01's marked cases, M1 to M10, the others beside them, and sentences of it that a case shows.
 use mathlib.Core.Path.{_≡_}
-use Prim.Native.Nat.{ℕ, zero, _+_, _-_, _^_}
+use Prim.Native.Nat.{ℕ, _+_, _-_, _^_}
 use mathlib.Core.Bool.{Bool, true, false}
 use mathlib.Core.List.{List, [], _∷_, _++_, map}
 use lib.IntN.{ℤ, pos}
