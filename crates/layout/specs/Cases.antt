@@ -152,6 +152,8 @@ ruleCases =
     ∷ ruled 0 (second (5000 + 2 ^ 32)) 4
     ∷ ruled 0 (second (5001 + 2 ^ 31)) 4
     ∷ ruled 0 (pointOf 0 0 ∷ pointOf (2 ^ 31) 0 ∷ pointOf (2 ^ 31 + 1) 0 ∷ []) 0
+    -- the field of the lowest dod
+    ∷ bits 0 (pointOf 0 0 ∷ pointOf (2 ^ 31) 0 ∷ pointOf (2 ^ 31 + 1) 0 ∷ []) (bitsOf 4 0b1111 ++ bitsOf 32 0x80000001 ++ bitsOf 1 0) 253
     -- a field of 7 bits takes -63 to 64, one of 1 bit 0 and 1
     ∷ takes 7 (minus 64) false
     ∷ takes 7 (minus 63) true
