@@ -10,17 +10,13 @@ pub(super) fn put(out: &mut [u8], used: usize, text: &[u8]) -> usize
     requires { ⌜ used ≤ length (now out) ⌝ }
     ensures { λ r. ⌜ r ≤ length (now (out .entry)) ⌝ }
 {
-    let mut at = used;
-    let mut i: usize = 0;
-    while i < text.len() {
-        if out.len() <= at {
-            return at;
-        }
-        out[at] = text[i];
-        at += 1;
-        i += 1;
+    let room = out.len() - used;
+    if room < text.len() {
+        bytes::copy(&text[0..room], &mut out[used..]);
+        return out.len();
     }
-    at
+    bytes::copy(text, &mut out[used..]);
+    used + text.len()
 }
 
 pub(super) fn put_decimal(out: &mut [u8], used: usize, n: u64) -> usize

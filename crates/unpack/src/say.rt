@@ -16,17 +16,13 @@ fn put(out: &mut [u8], used: usize, text: &[u8]) -> usize
     requires { ⌜ used ≤ length (now out) ⌝ }
     ensures { λ r. ⌜ r ≤ length (now (out .entry)) ⌝ }
 {
-    let mut at = used;
-    let mut i: usize = 0;
-    while i < text.len() {
-        if out.len() <= at {
-            return at;
-        }
-        out[at] = text[i];
-        at += 1;
-        i += 1;
+    let room = out.len() - used;
+    if room < text.len() {
+        bytes::copy(&text[0..room], &mut out[used..]);
+        return out.len();
     }
-    at
+    bytes::copy(text, &mut out[used..]);
+    used + text.len()
 }
 
 // Where the next line may begin. A full page is written first; it stays full if that failed.
