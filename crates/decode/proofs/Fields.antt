@@ -2,53 +2,53 @@
 use Rattle.std.proofs.Common.{◌≡◌, ℕ, ◌+◌, ◌-◌, ◌*◌, ◌/◌, ◌%◌, ◌^◌, ◌<◌, ◌≤◌, Bool, cond, eqb, List, [], ◌∷◌, length, refl, ap, ◌∙◌, lt_of_not-le, arith, ne_eqb}
 use native.Mathlib.Decide.{dec_le}
 use Rattle.stream.specs.Bits.{value_of, bits, field}
-use Rattle.stream.specs.Calls.{limit, Told, given, refused, tellBits, fieldFault, read_of}
+use Rattle.stream.specs.Calls.{limit, Told, given, refused, tell_bits, field_fault, read_of}
 use Rattle.stream.specs.declared.buffered_read.BitsAnswer.{BitsAnswer}
 use Rattle.stream.specs.declared.buffered_read.BitsAnswer.TheVariants as many
 use Rattle.stream.specs.declared.refusal.Refusal.{Refusal}
-use Rattle.stream.proofs.Bytes.{length-bits}
+use Rattle.stream.proofs.Bytes.{length_bits}
 use Rattle.stream.proofs.Taking.{field_lt}
-use Rattle.stream.proofs.Outcomes.{read_is, read_none, told-as}
+use Rattle.stream.proofs.Outcomes.{read_is, read_none, told_as}
 use Rattle.layout.specs.Writing.{State}
 use Rattle.layout.specs.Reading.{done, ask, run, Label, point, ending, wrong, Reader}
-use Rattle.layout.specs.Answers.{pointAt, end_at, wrongAt, reached}
-use Rattle.layout.proofs.Runs.{run-there, run-cut}
+use Rattle.layout.specs.Answers.{point_at, end_at, wrong_at, reached}
+use Rattle.layout.proofs.Runs.{run_there, run_cut}
 use Rattle.decode.specs.declared.field.Peeked.{Peeked}
 use Rattle.decode.specs.declared.field.Field.{Field}
 use Rattle.decode.specs.declared.field.Field.TheVariants as field
-use Rattle.decode.specs.Parts.{Known, place, Holds, GotField, unplaced, comesTo}
-use Rattle.decode.proofs.Peeks.{none-known, known-first, known-rest}
+use Rattle.decode.specs.Parts.{Known, place, Holds, GotField, unplaced, comes_to}
+use Rattle.decode.proofs.Peeks.{none_known, known_first, known_rest}
 
 -- ---- the bit reader's answer
 
 module _ (l : List ℕ) (p n : ℕ) (few : n ≤ 64) (short : length l ≤ limit) where
-  module _ (q : ℕ) (a : BitsAnswer) (e : (tellBits a, q) ≡ read_of l p n) where
-    pub got-whole : (v : ℕ) → a ≡ many.Bits v → (r : Peeked) → (place r ≡ q) × (r.have ≡ 0) × (r.word ≡ 0) → GotField (bits l) p n (field.Whole v r)
+  module _ (q : ℕ) (a : BitsAnswer) (e : (tell_bits a, q) ≡ read_of l p n) where
+    pub got_whole : (v : ℕ) → a ≡ many.Bits v → (r : Peeked) → (place r ≡ q) × (r.have ≡ 0) × (r.word ≡ 0) → GotField (bits l) p n (field.Whole v r)
     unfolding GotField
-    got-whole v f r b = elim (dec_le (p + n) (8 * length l)) [
+    got_whole v f r b = elim (dec_le (p + n) (8 * length l)) [
       | yes h ↦
-          let o = told-as l p n q a (many.Bits v) f e ∙ read_is l p n few short h in
+          let o = told_as l p n q a (many.Bits v) f e ∙ read_is l p n few short h in
           let t : given (v ∷ []) ≡ given (value_of (field (bits l) p n) ∷ []) = ap (λ (o : Told × ℕ). o.0) o in
           let x : v ≡ value_of (field (bits l) p n) = cc in
           let y : place r ≡ p + n = b.0 ∙ ap (λ (o : Told × ℕ). o.1) o in
-          let z : p + n ≤ length (bits l) = rw (length-bits l) h in
-          (z, x, rw x (field_lt (bits l) p n), y, none-known (bits l) r b.1 b.2 (rw y z))
+          let z : p + n ≤ length (bits l) = rw (length_bits l) h in
+          (z, x, rw x (field_lt (bits l) p n), y, none_known (bits l) r b.1 b.2 (rw y z))
       | no h ↦
-          let o = told-as l p n q a (many.Bits v) f e ∙ read_none l p n few short (lt_of_not-le h) in
-          let t : given (v ∷ []) ≡ refused (fieldFault 7 (length l) p n) = ap (λ (o : Told × ℕ). o.0) o in
+          let o = told_as l p n q a (many.Bits v) f e ∙ read_none l p n few short (lt_of_not-le h) in
+          let t : given (v ∷ []) ≡ refused (field_fault 7 (length l) p n) = ap (λ (o : Told × ℕ). o.0) o in
           let z : ◌≡◌ {A = ℕ} 0 1 = cc in
           absurd (omega arith)
     ]
 
-    pub got-short : (x : Refusal) → a ≡ many.Refused x → GotField (bits l) p n field.Short
+    pub got_short : (x : Refusal) → a ≡ many.Refused x → GotField (bits l) p n field.Short
     unfolding GotField
-    got-short x f = elim (dec_le (p + n) (8 * length l)) [
+    got_short x f = elim (dec_le (p + n) (8 * length l)) [
       | yes h ↦
-          let o = told-as l p n q a (many.Refused x) f e ∙ read_is l p n few short h in
-          let t : tellBits (many.Refused x) ≡ given (value_of (field (bits l) p n) ∷ []) = ap (λ (o : Told × ℕ). o.0) o in
+          let o = told_as l p n q a (many.Refused x) f e ∙ read_is l p n few short h in
+          let t : tell_bits (many.Refused x) ≡ given (value_of (field (bits l) p n) ∷ []) = ap (λ (o : Told × ℕ). o.0) o in
           let z : ◌≡◌ {A = ℕ} 0 1 = cc in
           absurd (omega arith)
-      | no h ↦ rw (length-bits l) (lt_of_not-le h)
+      | no h ↦ rw (length_bits l) (lt_of_not-le h)
     ]
 
 -- ---- a field out of a word that has it
@@ -58,68 +58,68 @@ module _ (s : List Bool) (q h w n : ℕ) (r : Peeked) (known : Known s q h w) (l
   unfolding Known
   inside = omega (arith, known.1)
 
-  pub got-known : r.have ≡ h - n → r.word ≡ w * 2 ^ n % 2 ^ 64 → GotField s q n (field.Whole (w / 2 ^ (64 - n)) r)
+  pub got_known : r.have ≡ h - n → r.word ≡ w * 2 ^ n % 2 ^ 64 → GotField s q n (field.Whole (w / 2 ^ (64 - n)) r)
   unfolding GotField
-  got-known e f =
-      let x = known-first s q h w n known l in
-      (inside, x, rw x (field_lt s q n), behind, rw (behind, e, f) (known-rest s q h w n known l))
+  got_known e f =
+      let x = known_first s q h w n known l in
+      (inside, x, rw x (field_lt s q n), behind, rw (behind, e, f) (known_rest s q h w n known l))
 
-  pub got-digits : r.have ≡ 0 → r.word ≡ 0 → GotField s q n (field.Whole (w / 2 ^ (64 - n)) r)
+  pub got_digits : r.have ≡ 0 → r.word ≡ 0 → GotField s q n (field.Whole (w / 2 ^ (64 - n)) r)
   unfolding GotField
-  got-digits e f =
-      let x = known-first s q h w n known l in
-      (inside, x, rw x (field_lt s q n), behind, none-known s r e f (rw behind inside))
+  got_digits e f =
+      let x = known_first s q h w n known l in
+      (inside, x, rw x (field_lt s q n), behind, none_known s r e f (rw behind inside))
 
 -- a place in a buffer within the limit leaves room for the sum of it and a field
-pub place-fits : (l : List ℕ) (q n : ℕ) → q ≤ length (bits l) → length l ≤ limit → n ≤ 64 → q + n < 2 ^ 64
-place-fits l q n h k m = omega (arith, length-bits l)
+pub place_fits : (l : List ℕ) (q n : ℕ) → q ≤ length (bits l) → length l ≤ limit → n ≤ 64 → q + n < 2 ^ 64
+place_fits l q n h k m = omega (arith, length_bits l)
 
-pub known-inside : (s : List Bool) (q h w : ℕ) → Known s q h w → q ≤ length s
+pub known_inside : (s : List Bool) (q h w : ℕ) → Known s q h w → q ≤ length s
 unfolding Known
-known-inside s q h w k = omega (arith, k.1)
+known_inside s q h w k = omega (arith, k.1)
 
 -- ---- a reader that begins with the field
 
 module _ (l : Label) (n : ℕ) (f : ℕ → Reader) (p : ℕ) (s : List Bool) (g : Field) (got : GotField s p n g) where
-  pub by-short : g ≡ field.Short → wrongAt 7 0 ≡ comesTo (ask l n f) p s
-  unfolding GotField comesTo unplaced reached
-  by-short e = let k : GotField s p n field.Short = rw e at got in rw (run-cut l n f p s k)
+  pub by_short : g ≡ field.Short → wrong_at 7 0 ≡ comes_to (ask l n f) p s
+  unfolding GotField comes_to unplaced reached
+  by_short e = let k : GotField s p n field.Short = rw e at got in rw (run_cut l n f p s k)
 
-  pub by_whole : (v : ℕ) (r : Peeked) → g ≡ field.Whole v r → comesTo (f v) (place r) s ≡ comesTo (ask l n f) p s
-  unfolding GotField comesTo
+  pub by_whole : (v : ℕ) (r : Peeked) → g ≡ field.Whole v r → comes_to (f v) (place r) s ≡ comes_to (ask l n f) p s
+  unfolding GotField comes_to
   by_whole v r e =
       let k : GotField s p n (field.Whole v r) = rw e at got in
-      rw (run-there l n f p s k.0, ← k.1, ← k.3)
+      rw (run_there l n f p s k.0, ← k.1, ← k.3)
 
 -- its number has no more digits than were asked for
-pub whole-lt : (s : List Bool) (p n : ℕ) (g : Field) → GotField s p n g → (v : ℕ) (r : Peeked) → g ≡ field.Whole v r → v < 2 ^ n
+pub whole_lt : (s : List Bool) (p n : ℕ) (g : Field) → GotField s p n g → (v : ℕ) (r : Peeked) → g ≡ field.Whole v r → v < 2 ^ n
 unfolding GotField
-whole-lt s p n g got v r e = let k : GotField s p n (field.Whole v r) = rw e at got in k.2
+whole_lt s p n g got v r e = let k : GotField s p n (field.Whole v r) = rw e at got in k.2
 
 -- what is known of the bits behind it
-pub whole-holds : (s : List Bool) (p n : ℕ) (g : Field) → GotField s p n g → (v : ℕ) (r : Peeked) → g ≡ field.Whole v r → Holds s r
+pub whole_holds : (s : List Bool) (p n : ℕ) (g : Field) → GotField s p n g → (v : ℕ) (r : Peeked) → g ≡ field.Whole v r → Holds s r
 unfolding GotField
-whole-holds s p n g got v r e = let k : GotField s p n (field.Whole v r) = rw e at got in k.4
+whole_holds s p n g got v r e = let k : GotField s p n (field.Whole v r) = rw e at got in k.4
 
 -- a field in which 0 chooses
 module _ (l : Label) (n : ℕ) (y : Reader) (z : ℕ → Reader) (p : ℕ) (s : List Bool) (g : Field) (got : GotField s p n g) (v : ℕ) (r : Peeked) (e : g ≡ field.Whole v r) where
-  pub by_zero : v ≡ 0 → comesTo y (place r) s ≡ comesTo (ask l n (λ x. cond (eqb x 0) y (z x))) p s
+  pub by_zero : v ≡ 0 → comes_to y (place r) s ≡ comes_to (ask l n (λ x. cond (eqb x 0) y (z x))) p s
   by_zero h = rw h at (by_whole l n (λ x. cond (eqb x 0) y (z x)) p s g got v r e)
 
-  pub by-other : (v ≡ 0 → ⊥) → comesTo (z v) (place r) s ≡ comesTo (ask l n (λ x. cond (eqb x 0) y (z x))) p s
-  by-other h = rw (ne_eqb v 0 h) at (by_whole l n (λ x. cond (eqb x 0) y (z x)) p s g got v r e)
+  pub by_other : (v ≡ 0 → ⊥) → comes_to (z v) (place r) s ≡ comes_to (ask l n (λ x. cond (eqb x 0) y (z x))) p s
+  by_other h = rw (ne_eqb v 0 h) at (by_whole l n (λ x. cond (eqb x 0) y (z x)) p s g got v r e)
 
 -- ---- a reader that is done
 
 module _ (q : ℕ) (s : List Bool) where
-  pub done-point : (st : State) → pointAt st q ≡ comesTo (done (point st)) q s
-  unfolding comesTo run reached unplaced
-  done-point st = refl
+  pub done_point : (st : State) → point_at st q ≡ comes_to (done (point st)) q s
+  unfolding comes_to run reached unplaced
+  done_point st = refl
 
-  pub done_end : end_at q ≡ comesTo (done ending) q s
-  unfolding comesTo run reached unplaced
+  pub done_end : end_at q ≡ comes_to (done ending) q s
+  unfolding comes_to run reached unplaced
   done_end = refl
 
-  pub done-wrong : (k : ℕ) → wrongAt k 0 ≡ comesTo (done (wrong k)) q s
-  unfolding comesTo run reached unplaced
-  done-wrong k = refl
+  pub done_wrong : (k : ℕ) → wrong_at k 0 ≡ comes_to (done (wrong k)) q s
+  unfolding comes_to run reached unplaced
+  done_wrong k = refl

@@ -2,26 +2,26 @@
 use Rattle.std.proofs.Common.{◌≡◌, ℕ, ◌+◌, ◌-◌, ◌*◌, ◌/◌, ◌%◌, ◌^◌, ◌≤◌, Bool, List, length, sym, refl, ap, ◌∙◌, mul_assoc, zero-mul, mul-one, arith, pow-add, shr-shr}
 use lib.Pow.{shl-shr}
 use Rattle.stream.specs.Bits.{value_of, bits, field}
-use Rattle.stream.specs.Calls.{tellAhead, ahead_of}
+use Rattle.stream.specs.Calls.{tell_ahead, ahead_of}
 use Rattle.stream.specs.declared.buffered_read.Ahead.{Ahead}
 use Rattle.stream.specs.declared.buffered_read.Ahead.TheVariants as ahead
-use Rattle.stream.proofs.Bytes.{length-bits}
-use Rattle.stream.proofs.Taking.{none_read, field-high, field-low, shl-mod}
-use Rattle.stream.proofs.Outcomes.{ahead-there}
+use Rattle.stream.proofs.Bytes.{length_bits}
+use Rattle.stream.proofs.Taking.{none_read, field_high, field_low, shl_mod}
+use Rattle.stream.proofs.Outcomes.{ahead_there}
 use Rattle.decode.specs.declared.field.Peeked.{Peeked}
 use Rattle.decode.specs.Parts.{Known, place, Holds}
 
 -- of nothing nothing is known
-pub none-known : (s : List Bool) (p : Peeked) → p.have ≡ 0 → p.word ≡ 0 → place p ≤ length s → Holds s p
+pub none_known : (s : List Bool) (p : Peeked) → p.have ≡ 0 → p.word ≡ 0 → place p ≤ length s → Holds s p
 unfolding Known
-none-known s p e f h = rw (e, f) (omega arith, omega arith, rw (← (none_read s (place p) 0 refl)) (sym (zero-mul (2 ^ 64))))
+none_known s p e f h = rw (e, f) (omega arith, omega arith, rw (← (none_read s (place p) 0 refl)) (sym (zero-mul (2 ^ 64))))
 
 -- a word that is there is known whole
-pub word-known : (l : List ℕ) (p w : ℕ) (a : Ahead) → tellAhead a ≡ ahead_of l p → a ≡ ahead.Word w → Known (bits l) p 64 w
+pub word_known : (l : List ℕ) (p w : ℕ) (a : Ahead) → tell_ahead a ≡ ahead_of l p → a ≡ ahead.Word w → Known (bits l) p 64 w
 unfolding Known
-word-known l p w a e f =
-    let k = ahead-there l p w (sym (ap tellAhead f) ∙ e) in
-    (omega arith, rw (length-bits l) (omega (arith, k.0)), k.1 ∙ sym (mul-one _))
+word_known l p w a e f =
+    let k = ahead_there l p w (sym (ap tell_ahead f) ∙ e) in
+    (omega arith, rw (length_bits l) (omega (arith, k.0)), k.1 ∙ sym (mul-one _))
 
 -- ---- n + m bits at q, the highest of a word of (n + m) + t
 
@@ -30,27 +30,27 @@ module _ (s : List Bool) (q n m t w : ℕ) (e : w ≡ value_of (field s q (n + m
   first_of : w / 2 ^ (t + m) ≡ value_of (field s q n)
   first_of =
       rw e (sym (shr-shr (value_of (field s q (n + m)) * 2 ^ t) t m) ∙ ap (λ (k : ℕ). k / 2 ^ m) (shl-shr (value_of (field s q (n + m))) t)
-      ∙ field-high s q n m h)
+      ∙ field_high s q n m h)
 
   -- the m behind those
   rest_of : w * 2 ^ n % 2 ^ (m + (t + n)) ≡ value_of (field s (q + n) m) * 2 ^ (t + n)
   rest_of =
       rw (e, mul_assoc (value_of (field s q (n + m))) (2 ^ t) (2 ^ n), ← (pow-add 2 t n))
-      (shl-mod (value_of (field s q (n + m))) m (t + n) ∙ ap (λ (k : ℕ). k * 2 ^ (t + n)) (field-low s q n m h))
+      (shl_mod (value_of (field s q (n + m))) m (t + n) ∙ ap (λ (k : ℕ). k * 2 ^ (t + n)) (field_low s q n m h))
 
 module _ (s : List Bool) (q h w n : ℕ) (known : Known s q h w) (l : n ≤ h) where
   -- a field that the word has
-  pub known-first : w / 2 ^ (64 - n) ≡ value_of (field s q n)
+  pub known_first : w / 2 ^ (64 - n) ≡ value_of (field s q n)
   unfolding Known
-  known-first =
+  known_first =
       let a : n + (h - n) ≡ h = omega arith in
       let b : 64 - h + (h - n) ≡ 64 - n = omega (arith, known.0) in
       rw b at (first_of s q n (h - n) (64 - h) w (rw a known.2) (rw a known.1))
 
   -- what is known behind it
-  pub known-rest : Known s (q + n) (h - n) (w * 2 ^ n % 2 ^ 64)
+  pub known_rest : Known s (q + n) (h - n) (w * 2 ^ n % 2 ^ 64)
   unfolding Known
-  known-rest =
+  known_rest =
       let a : n + (h - n) ≡ h = omega arith in
       let b : 64 - h + n ≡ 64 - (h - n) = omega (arith, known.0) in
       let c : h - n + (64 - (h - n)) ≡ 64 = omega (arith, known.0) in

@@ -1,7 +1,7 @@
 -- Unpacking into two lists: a decoder's steps, one after the other, until the lists are full or an answer is no point.
 use Rattle.std.specs.Prelude.{ℕ, zero, suc, min, Bool, List, [], ◌∷◌, ◌++◌, map, length, drop}
 use Rattle.layout.specs.Writing.{Point, point_of}
-use Rattle.layout.specs.Answers.{Answer, aPoint, anEnd, refusal}
+use Rattle.layout.specs.Answers.{Answer, a_point, an_end, refusal}
 use Rattle.decode.specs.declared.std_decoder.unpack.UnpackAnswer.{UnpackAnswer}
 use Rattle.decode.specs.declared.std_decoder.unpack.UnpackAnswer.TheVariants as answer
 use Rattle.decode.specs.declared.std_decoder.unpack.Unpacked.{Unpacked}
@@ -12,9 +12,9 @@ pub data Stop : Type 0 where
   full : Stop
   said : Answer → Stop
 
-abbrev pub tellStop : UnpackAnswer → Stop
-tellStop answer.Full = full
-tellStop (answer.Stopped a) = said (tell a)
+abbrev pub tell_stop : UnpackAnswer → Stop
+tell_stop answer.Full = full
+tell_stop (answer.Stopped a) = said (tell a)
 
 -- the points given, why there are no more, and the state after it
 abbrev pub Unpacking : Type 0
@@ -23,36 +23,36 @@ Unpacking = List Point × Stop × Dec
 abbrev pub behind : Point → Unpacking → Unpacking
 behind p u = (p ∷ u.0, u.1, u.2)
 
-unfoldable pub onPoint : {A : Type 0} → Answer → (Point → A) → A → A
-onPoint (aPoint t v q) onward stop = onward (point_of t v)
-onPoint (anEnd q) onward stop = stop
-onPoint (refusal r) onward stop = stop
+unfoldable pub on_point : {A : Type 0} → Answer → (Point → A) → A → A
+on_point (a_point t v q) onward stop = onward (point_of t v)
+on_point (an_end q) onward stop = stop
+on_point (refusal r) onward stop = stop
 
 -- a list whose first entries are xs, the others as they were
-unfoldable pub startingWith : List ℕ → List ℕ → List ℕ
-startingWith xs ts = xs ++ drop (length xs) ts
+unfoldable pub starting_with : List ℕ → List ℕ → List ℕ
+starting_with xs ts = xs ++ drop (length xs) ts
 
 -- how many were given, why there are no more, the state after it, and the two lists
 abbrev pub Filling : Type 0
 Filling = ℕ × Stop × Dec × List ℕ × List ℕ
 
-abbrev pub toldUnpacked : Unpacked → List ℕ → List ℕ → Filling
-toldUnpacked r ts vs = (r.given, tellStop r.answer, view r.decoder, ts, vs)
+abbrev pub told_unpacked : Unpacked → List ℕ → List ℕ → Filling
+told_unpacked r ts vs = (r.given, tell_stop r.answer, view r.decoder, ts, vs)
 
 unfoldable pub filling : List ℕ → List ℕ → Unpacking → Filling
 filling ts vs u =
-    (length u.0, u.1, u.2, startingWith (map (λ (p : Point). p.time) u.0) ts, startingWith (map (λ (p : Point). p.value) u.0) vs)
+    (length u.0, u.1, u.2, starting_with (map (λ (p : Point). p.time) u.0) ts, starting_with (map (λ (p : Point). p.value) u.0) vs)
 
 -- n is the buffer's length in bytes, bs its bits, and values have 2^c bits
 module _ (c : ℕ) where
   -- at most k points
-  unfoldable pub unpacksOf : ℕ → Dec → ℕ → List Bool → Unpacking
-  unpacksOf zero d n bs = ([], full, d)
-  unpacksOf (suc k) d n bs =
-      onPoint (next_of c d n bs).0
-      (λ p. behind p (unpacksOf k (next_of c d n bs).1 n bs))
+  unfoldable pub unpacks_of : ℕ → Dec → ℕ → List Bool → Unpacking
+  unpacks_of zero d n bs = ([], full, d)
+  unpacks_of (suc k) d n bs =
+      on_point (next_of c d n bs).0
+      (λ p. behind p (unpacks_of k (next_of c d n bs).1 n bs))
       ([], said (next_of c d n bs).0, (next_of c d n bs).1)
 
   -- as many as the shorter list has
-  unfoldable pub fillsOf : Dec → ℕ → List Bool → List ℕ → List ℕ → Filling
-  fillsOf d n bs ts vs = filling ts vs (unpacksOf (min (length ts) (length vs)) d n bs)
+  unfoldable pub fills_of : Dec → ℕ → List Bool → List ℕ → List ℕ → Filling
+  fills_of d n bs ts vs = filling ts vs (unpacks_of (min (length ts) (length vs)) d n bs)

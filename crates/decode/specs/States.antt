@@ -4,7 +4,7 @@ use Rattle.stream.specs.Refusals.{number_of}
 use Rattle.stream.specs.Calls.{Told, given, refused}
 use Rattle.layout.specs.Windows.{Window, window}
 use Rattle.layout.specs.Writing.{State, state}
-use Rattle.layout.specs.Answers.{Answer, aPoint, anEnd, refusal}
+use Rattle.layout.specs.Answers.{Answer, a_point, an_end, refusal}
 use Rattle.decode.specs.declared.std_decoder.Step.{Step}
 use Rattle.decode.specs.declared.std_decoder.Step.TheVariants as step
 use Rattle.decode.specs.declared.std_decoder.Phase.{Phase}
@@ -15,13 +15,13 @@ use Rattle.decode.specs.declared.std_decoder.StdDecoder.{StdDecoder}
 
 -- ---- answers
 
-abbrev pub tellOpen : OpenAnswer → Told
-tellOpen opening.Done = given []
-tellOpen (opening.Refused r) = refused (number_of r)
+abbrev pub tell_open : OpenAnswer → Told
+tell_open opening.Done = given []
+tell_open (opening.Refused r) = refused (number_of r)
 
 abbrev pub tell : Step → Answer
-tell (step.Point p q) = aPoint p.time p.bits q.0
-tell (step.End q) = anEnd q.0
+tell (step.Point p q) = a_point p.time p.bits q.0
+tell (step.End q) = an_end q.0
 tell (step.Refused r) = refusal (number_of r)
 
 -- ---- states
@@ -31,9 +31,9 @@ pub data Ending : Type 0 where
   still : Ending
   over : Answer → Ending
 
-abbrev pub endingOf : Phase → Ending
-endingOf phase.Running = still
-endingOf (phase.Ended a) = over (tell a)
+abbrev pub ending_of : Phase → Ending
+ending_of phase.Running = still
+ending_of (phase.Ended a) = over (tell a)
 
 pub record Dec : Type 0 where
   -- the buffer's length in bytes, at opening
@@ -59,4 +59,4 @@ kept d = state d.time d.delta d.value d.window
 
 abbrev pub view : StdDecoder → Dec
 view d =
-    dec d.len.0 d.r.at.0 (state d.time d.delta d.value_bits (window d.leading_zeroes d.trailing_zeroes)) d.first (endingOf d.phase)
+    dec d.len.0 d.r.at.0 (state d.time d.delta d.value_bits (window d.leading_zeroes d.trailing_zeroes)) d.first (ending_of d.phase)

@@ -6,9 +6,9 @@ ghost use Rattle.stream.specs.Calls.{limit};
 ghost use Rattle.layout.specs.Rows.{signed};
 ghost use Rattle.layout.specs.Windows.{window};
 ghost use Rattle.layout.specs.Writing.{state};
-ghost use Rattle.layout.specs.Reading.{ask, done, item, valueDigits, point, readMarker, read_first, readLater, readValue, firstTime, afterDod};
-ghost use Rattle.layout.specs.Answers.{firstStep};
-ghost use Rattle.decode.specs.Parts.{place, Holds, unplaced, comesTo, stateIn, foundOf, Carried};
+ghost use Rattle.layout.specs.Reading.{ask, done, item, value_digits, point, read_marker, read_first, read_later, read_value, first_time, after_dod};
+ghost use Rattle.layout.specs.Answers.{first_step};
+ghost use Rattle.decode.specs.Parts.{place, Holds, unplaced, comes_to, state_in, found_of, Carried};
 
 use super::field::{Field, Peeked, peek, read};
 use super::timestamp::{Dod, Time, new_time, read_dod};
@@ -50,7 +50,7 @@ fn read_first_value(
     trail: u32,
 ) -> Found
     requires { length buf.now ≤ limit }
-    ensures { foundOf result ≡ comesTo (ask (item valueDigits 0) 64 (λ v. done (point (state time delta v (window lead trail))))) r.at.0 (bits buf.now) }
+    ensures { found_of result ≡ comes_to (ask (item value_digits 0) 64 (λ v. done (point (state time delta v (window lead trail))))) r.at.0 (bits buf.now) }
 {
     match read(r, buf, 64) {
         Field::Short => Found::Refused(Refusal::CutShort),
@@ -70,7 +70,7 @@ fn read_first_value(
 // Its delta, which is no dod yet, then its value.
 fn read_first_time(r: BufferedReader, buf: &[u8], start: u64, lead: u32, trail: u32) -> Found
     requires { length buf.now ≤ limit }
-    ensures { foundOf result ≡ comesTo (firstTime 6 start (window lead trail)) r.at.0 (bits buf.now) }
+    ensures { found_of result ≡ comes_to (first_time 6 start (window lead trail)) r.at.0 (bits buf.now) }
 {
     let Field::Whole(delta, rest) = read(r, buf, 14) else {
         return Found::Refused(Refusal::CutShort);
@@ -84,7 +84,7 @@ fn read_first_time(r: BufferedReader, buf: &[u8], start: u64, lead: u32, trail: 
 // The marker in its place, behind the control bit.
 fn read_marker(r: BufferedReader, buf: &[u8]) -> Found
     requires { length buf.now ≤ limit }
-    ensures { foundOf result ≡ comesTo readMarker r.at.0 (bits buf.now) }
+    ensures { found_of result ≡ comes_to read_marker r.at.0 (bits buf.now) }
 {
     let Field::Whole(marker, rest) = read(r, buf, MARKER_REST_LEN) else {
         return Found::Refused(Refusal::CutShort);
@@ -99,7 +99,7 @@ fn read_marker(r: BufferedReader, buf: &[u8]) -> Found
 // Its control bit: a point, or the end of a series that has none.
 fn read_first(r: BufferedReader, buf: &[u8], start: u64, lead: u32, trail: u32) -> Found
     requires { length buf.now ≤ limit }
-    ensures { foundOf result ≡ comesTo (read_first 6 start (window lead trail)) r.at.0 (bits buf.now) }
+    ensures { found_of result ≡ comes_to (read_first 6 start (window lead trail)) r.at.0 (bits buf.now) }
 {
     let Field::Whole(control_bit, rest) = read(r, buf, 1) else {
         return Found::Refused(Refusal::CutShort);
@@ -113,7 +113,7 @@ fn read_first(r: BufferedReader, buf: &[u8], start: u64, lead: u32, trail: u32) 
 // The start, then the first point.
 pub(super) fn read_start(r: BufferedReader, buf: &[u8], lead: u32, trail: u32) -> Found
     requires { length buf.now ≤ limit }
-    ensures { foundOf result ≡ unplaced (firstStep 6 (window lead trail) r.at.0 (bits buf.now)) }
+    ensures { found_of result ≡ unplaced (first_step 6 (window lead trail) r.at.0 (bits buf.now)) }
 {
     let Field::Whole(start, rest) = read(r, buf, 64) else {
         return Found::Refused(Refusal::NoStart);
@@ -128,7 +128,7 @@ fn read_later_value(r: Peeked, buf: &[u8], k: Kept, time: u64, delta: u64) -> Fo
     requires trail_bound { k.lead + k.trail < 64 }
     requires buf_len_bound { length buf.now ≤ limit }
     requires holds { Holds (bits buf.now) r }
-    ensures { (foundOf result ≡ comesTo (readValue 6 k.bits (window k.lead k.trail) (λ w v. done (point (state time delta v w)))) (place r) (bits buf.now)) × Carried (bits buf.now) result }
+    ensures { (found_of result ≡ comes_to (read_value 6 k.bits (window k.lead k.trail) (λ w v. done (point (state time delta v w)))) (place r) (bits buf.now)) × Carried (bits buf.now) result }
 {
     match read_next_value(r, buf, k.bits, k.lead, k.trail) {
         Value::Refused(why) => Found::Refused(why),
@@ -156,7 +156,7 @@ fn read_later_time(r: Peeked, buf: &[u8], k: Kept, raw: u64, n: u32) -> Found
     requires trail_bound { k.lead + k.trail < 64 }
     requires buf_len_bound { length buf.now ≤ limit }
     requires holds { Holds (bits buf.now) r }
-    ensures { (foundOf result ≡ comesTo (afterDod 6 (stateIn k) (signed n raw)) (place r) (bits buf.now)) × Carried (bits buf.now) result }
+    ensures { (found_of result ≡ comes_to (after_dod 6 (state_in k) (signed n raw)) (place r) (bits buf.now)) × Carried (bits buf.now) result }
 {
     match new_time(k.time, k.delta, raw, n) {
         Time::Refused(why) => Found::Refused(why),
@@ -180,7 +180,7 @@ pub(super) fn read_later(r: Peeked, buf: &[u8], k: Kept) -> Found
     requires trail_bound { k.lead + k.trail < 64 }
     requires buf_len_bound { length buf.now ≤ limit }
     requires holds { Holds (bits buf.now) r }
-    ensures { (foundOf result ≡ comesTo (readLater 6 (stateIn k)) (place r) (bits buf.now)) × Carried (bits buf.now) result }
+    ensures { (found_of result ≡ comes_to (read_later 6 (state_in k)) (place r) (bits buf.now)) × Carried (bits buf.now) result }
 {
     match read_dod(refilled(r, buf), buf) {
         Dod::Refused(why) => Found::Refused(why),

@@ -3,8 +3,8 @@
 ghost use Rattle.std.specs.Prelude.{◌≡◌, false, length};
 ghost use Rattle.stream.specs.Bits.{bits};
 ghost use Rattle.decode.specs.States.{tell, still, dec, view};
-ghost use Rattle.decode.specs.Calls.{toldOpened, toldNext, openOf, ends, stepped, noFit, onward, next_of};
-ghost use Rattle.decode.specs.Parts.{unplaced, stateIn, foundOf, AtOnce};
+ghost use Rattle.decode.specs.Calls.{told_opened, told_next, open_of, ends, stepped, no_fit, onward, next_of};
+ghost use Rattle.decode.specs.Parts.{unplaced, state_in, found_of, AtOnce};
 
 use super::field::bare;
 use super::found::{Found, Kept, read_later, read_start};
@@ -66,7 +66,7 @@ pub struct Next {
 
 // 13: the state is not one that a decoder of a buffer of n bytes can be in.
 fn no_fit(d: StdDecoder, n: usize) -> bool
-    ensures { result ≡ noFit 6 (view d) n }
+    ensures { result ≡ no_fit 6 (view d) n }
 {
     let len = d.len.get();
     let at = d.r.position().get();
@@ -101,7 +101,7 @@ fn at_once(d: StdDecoder, n: usize) -> Phase
 
 // The decoder as it was, with the answer that it ends with.
 fn stop(d: StdDecoder, answer: Step) -> Next
-    ensures { toldNext result ≡ ends (view d) (tell answer) }
+    ensures { told_next result ≡ ends (view d) (tell answer) }
 {
     let len = d.len;
     let r = d.r;
@@ -121,8 +121,8 @@ fn stop(d: StdDecoder, answer: Step) -> Next
 
 // What stands next in the buffer of a state that fits it.
 fn look(d: StdDecoder, buf: &[u8]) -> Found
-    requires { noFit 6 (view d) (length buf.now) ≡ false }
-    ensures { foundOf result ≡ unplaced (onward 6 (view d) (bits buf.now)) }
+    requires { no_fit 6 (view d) (length buf.now) ≡ false }
+    ensures { found_of result ≡ unplaced (onward 6 (view d) (bits buf.now)) }
 {
     let r = d.r;
     let lead = d.leading_zeroes;
@@ -142,7 +142,7 @@ fn look(d: StdDecoder, buf: &[u8]) -> Found
 
 // The decoder behind a point.
 fn behind(k: Kept, r: BufferedReader, len: ByteCount) -> StdDecoder
-    ensures { view result ≡ dec len.0 r.at.0 (stateIn k) false still }
+    ensures { view result ≡ dec len.0 r.at.0 (state_in k) false still }
 {
     StdDecoder {
         time: k.time,
@@ -159,7 +159,7 @@ fn behind(k: Kept, r: BufferedReader, len: ByteCount) -> StdDecoder
 
 // The answer to what was found, and the decoder after it.
 fn take(d: StdDecoder, f: Found) -> Next
-    ensures { toldNext result ≡ stepped (view d) (foundOf f) }
+    ensures { told_next result ≡ stepped (view d) (found_of f) }
 {
     match f {
         Found::Refused(why) => stop(d, Step::Refused(why)),
@@ -179,7 +179,7 @@ fn take(d: StdDecoder, f: Found) -> Next
 impl StdDecoder {
     // Opens on a buffer, which is looked at by the first step: 5, or a decoder before the start.
     pub fn open(buf: &[u8]) -> Opened
-        ensures { toldOpened result ≡ openOf (length buf.now) }
+        ensures { told_opened result ≡ open_of (length buf.now) }
     {
         let n = buf.len();
         let r = BufferedReader::new();
@@ -225,7 +225,7 @@ impl StdDecoder {
 
     // The next point, the end or a refusal. An ended decoder repeats its answer; then 13, which neither ends nor changes it.
     pub fn next(self, buf: &[u8]) -> Next
-        ensures { toldNext result ≡ next_of 6 (view self) (length buf.now) (bits buf.now) }
+        ensures { told_next result ≡ next_of 6 (view self) (length buf.now) (bits buf.now) }
     {
         let phase = at_once(self, buf.len());
         match phase {

@@ -5,9 +5,9 @@ ghost use Rattle.std.specs.Int.{w64};
 ghost use Rattle.std.proofs.Common.{of_z};
 ghost use Rattle.stream.specs.Bits.{bits};
 ghost use Rattle.stream.specs.Calls.{limit};
-ghost use Rattle.layout.specs.Rows.{row7, longerRows, row32, signed};
-ghost use Rattle.layout.specs.Reading.{ask, item, timeField, Reader, readRow, readDod, newTime};
-ghost use Rattle.decode.specs.Parts.{place, Holds, comesTo, thenDod, InWidth, thenTime};
+ghost use Rattle.layout.specs.Rows.{row7, longer_rows, row32, signed};
+ghost use Rattle.layout.specs.Reading.{ask, item, time_field, Reader, read_row, read_dod, new_time};
+ghost use Rattle.decode.specs.Parts.{place, Holds, comes_to, then_dod, InWidth, then_time};
 
 use super::field::{Field, Peeked, get};
 use layout::row_at;
@@ -33,7 +33,7 @@ fn row_field(r: Peeked, buf: &[u8], width: u32) -> Dod
     requires le_width { (1 ≤ width) × (width ≤ 32) }
     requires buf_len_bound { length buf.now ≤ limit }
     requires holds { Holds (bits buf.now) r }
-    ensures { ((f : ℤ → Reader) → thenDod (bits buf.now) result f ≡ comesTo (ask (item timeField 0) width (λ x. f (signed width x))) (place r) (bits buf.now)) × InWidth (bits buf.now) result }
+    ensures { ((f : ℤ → Reader) → then_dod (bits buf.now) result f ≡ comes_to (ask (item time_field 0) width (λ x. f (signed width x))) (place r) (bits buf.now)) × InWidth (bits buf.now) result }
 {
     match get(r, buf, width) {
         Field::Short => Dod::Refused(Refusal::CutShort),
@@ -49,7 +49,7 @@ fn row_field(r: Peeked, buf: &[u8], width: u32) -> Dod
 fn last_field(r: Peeked, buf: &[u8]) -> Dod
     requires buf_len_bound { length buf.now ≤ limit }
     requires holds { Holds (bits buf.now) r }
-    ensures { ((f : ℤ → Reader) → thenDod (bits buf.now) result f ≡ comesTo (readRow row32 [] f) (place r) (bits buf.now)) × InWidth (bits buf.now) result }
+    ensures { ((f : ℤ → Reader) → then_dod (bits buf.now) result f ≡ comes_to (read_row row32 [] f) (place r) (bits buf.now)) × InWidth (bits buf.now) result }
 {
     let last = row_at(3);
     match get(r, buf, last.width) {
@@ -72,7 +72,7 @@ fn last_field(r: Peeked, buf: &[u8]) -> Dod
 fn read_row(r: Peeked, buf: &[u8]) -> Dod
     requires buf_len_bound { length buf.now ≤ limit }
     requires holds { Holds (bits buf.now) r }
-    ensures { ((f : ℤ → Reader) → thenDod (bits buf.now) result f ≡ comesTo (readRow row7 longerRows f) (place r) (bits buf.now)) × InWidth (bits buf.now) result }
+    ensures { ((f : ℤ → Reader) → then_dod (bits buf.now) result f ≡ comes_to (read_row row7 longer_rows f) (place r) (bits buf.now)) × InWidth (bits buf.now) result }
 {
     let mut i: usize = 0;
     let mut behind = r;
@@ -94,7 +94,7 @@ fn read_row(r: Peeked, buf: &[u8]) -> Dod
 pub(super) fn read_dod(r: Peeked, buf: &[u8]) -> Dod
     requires buf_len_bound { length buf.now ≤ limit }
     requires holds { Holds (bits buf.now) r }
-    ensures { ((f : ℤ → Reader) → thenDod (bits buf.now) result f ≡ comesTo (readDod f) (place r) (bits buf.now)) × InWidth (bits buf.now) result }
+    ensures { ((f : ℤ → Reader) → then_dod (bits buf.now) result f ≡ comes_to (read_dod f) (place r) (bits buf.now)) × InWidth (bits buf.now) result }
 {
     let Field::Whole(bit, rest) = get(r, buf, 1) else {
         return Dod::Refused(Refusal::CutShort);
@@ -126,7 +126,7 @@ fn extend(raw: u64, n: u32) -> u64
 // the true one; then 11 for the time.
 pub(super) fn new_time(time: u64, delta: u64, raw: u64, n: u32) -> Time
     requires { (1 ≤ n) × (n ≤ 32) × (raw < 2 ^ n) }
-    ensures { (q : ℕ) (s : List Bool) (f : ℕ → ℕ → Reader) → thenTime q s result f ≡ comesTo (newTime time (pos delta +ℤ signed n raw) f) q s }
+    ensures { (q : ℕ) (s : List Bool) (f : ℕ → ℕ → Reader) → then_time q s result f ≡ comes_to (new_time time (pos delta +ℤ signed n raw) f) q s }
 {
     let dod = extend(raw, n);
     let half: u64 = 1u64 << (n - 1);

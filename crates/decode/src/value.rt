@@ -5,8 +5,8 @@ ghost use Rattle.std.specs.Prelude.{◌≡◌, ℕ, ◌+◌, ◌<◌, ◌≤◌,
 ghost use Rattle.stream.specs.Bits.{bits};
 ghost use Rattle.stream.specs.Calls.{limit};
 ghost use Rattle.layout.specs.Windows.{Window, window};
-ghost use Rattle.layout.specs.Reading.{Reader, readDigits, readWindow, readXor, readValue};
-ghost use Rattle.decode.specs.Parts.{place, Holds, comesTo, thenValue, Behind, thenHead, Sound};
+ghost use Rattle.layout.specs.Reading.{Reader, read_digits, read_window, read_xor, read_value};
+ghost use Rattle.decode.specs.Parts.{place, Holds, comes_to, then_value, Behind, then_head, Sound};
 
 use super::field::{Field, Peeked, get, get_digits};
 use stream::{BufferedReader, Refusal};
@@ -39,7 +39,7 @@ pub enum Head {
 fn read_window(r: Peeked, buf: &[u8]) -> Head
     requires buf_len_bound { length buf.now ≤ limit }
     requires holds { Holds (bits buf.now) r }
-    ensures { ((v : ℕ) (w : Window) (f : Window → ℕ → Reader) → thenHead (bits buf.now) v w result f ≡ comesTo (readWindow 6 v f) (place r) (bits buf.now)) × Sound (bits buf.now) result }
+    ensures { ((v : ℕ) (w : Window) (f : Window → ℕ → Reader) → then_head (bits buf.now) v w result f ≡ comes_to (read_window 6 v f) (place r) (bits buf.now)) × Sound (bits buf.now) result }
 {
     let Field::Whole(zeros, behind) = get(r, buf, 6) else {
         return Head::Refused(Refusal::CutShort);
@@ -65,7 +65,7 @@ fn read_xor(r: Peeked, buf: &[u8], lead: u32, trail: u32) -> Head
     requires trail_bound { lead + trail < 64 }
     requires buf_len_bound { length buf.now ≤ limit }
     requires holds { Holds (bits buf.now) r }
-    ensures { ((v : ℕ) (f : Window → ℕ → Reader) → thenHead (bits buf.now) v (window lead trail) result f ≡ comesTo (readXor 6 v (window lead trail) f) (place r) (bits buf.now)) × Sound (bits buf.now) result }
+    ensures { ((v : ℕ) (f : Window → ℕ → Reader) → then_head (bits buf.now) v (window lead trail) result f ≡ comes_to (read_xor 6 v (window lead trail) f) (place r) (bits buf.now)) × Sound (bits buf.now) result }
 {
     let Field::Whole(zeroes_bit, rest) = get(r, buf, 1) else {
         return Head::Refused(Refusal::CutShort);
@@ -86,7 +86,7 @@ fn read_head(r: Peeked, buf: &[u8], lead: u32, trail: u32) -> Head
     requires trail_bound { lead + trail < 64 }
     requires buf_len_bound { length buf.now ≤ limit }
     requires holds { Holds (bits buf.now) r }
-    ensures { ((v : ℕ) (f : Window → ℕ → Reader) → thenHead (bits buf.now) v (window lead trail) result f ≡ comesTo (readValue 6 v (window lead trail) f) (place r) (bits buf.now)) × Sound (bits buf.now) result }
+    ensures { ((v : ℕ) (f : Window → ℕ → Reader) → then_head (bits buf.now) v (window lead trail) result f ≡ comes_to (read_value 6 v (window lead trail) f) (place r) (bits buf.now)) × Sound (bits buf.now) result }
 {
     let Field::Whole(control_bit, rest) = get(r, buf, 1) else {
         return Head::Refused(Refusal::CutShort);
@@ -102,7 +102,7 @@ fn read_digits(r: BufferedReader, buf: &[u8], previous: u64, lead: u32, trail: u
     requires trail_bound { lead + trail < 64 }
     requires buf_len_bound { length buf.now ≤ limit }
     requires at_in_bounds { r.at.0 ≤ length (bits buf.now) }
-    ensures { ((f : Window → ℕ → Reader) → thenValue (bits buf.now) result f ≡ comesTo (readDigits 6 previous (window lead trail) f) r.at.0 (bits buf.now)) × Behind (bits buf.now) result }
+    ensures { ((f : Window → ℕ → Reader) → then_value (bits buf.now) result f ≡ comes_to (read_digits 6 previous (window lead trail) f) r.at.0 (bits buf.now)) × Behind (bits buf.now) result }
 {
     let size = 64 - lead - trail;
     match get_digits(r, buf, size) {
@@ -124,7 +124,7 @@ pub(super) fn read_next_value(r: Peeked, buf: &[u8], previous: u64, lead: u32, t
     requires trail_bound { lead + trail < 64 }
     requires buf_len_bound { length buf.now ≤ limit }
     requires holds { Holds (bits buf.now) r }
-    ensures { ((f : Window → ℕ → Reader) → thenValue (bits buf.now) result f ≡ comesTo (readValue 6 previous (window lead trail) f) (place r) (bits buf.now)) × Behind (bits buf.now) result }
+    ensures { ((f : Window → ℕ → Reader) → then_value (bits buf.now) result f ≡ comes_to (read_value 6 previous (window lead trail) f) (place r) (bits buf.now)) × Behind (bits buf.now) result }
 {
     match read_head(r, buf, lead, trail) {
         Head::Refused(why) => Value::Refused(why),

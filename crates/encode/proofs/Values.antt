@@ -9,10 +9,10 @@ use lib.Dec.{leb}
 use lib.Count.{count_leading_zeros, count_trailing_zeros}
 use borrow.Author.Tests.{le-leb}
 use Rattle.stream.specs.Bits.{odd, bits_of}
-use Rattle.layout.specs.Windows.{Window, window, digits, reuses, tight, reuseBits, openBits, xorBits, windowAfter}
-use Rattle.layout.proofs.Xors.{zeros-lt, reused, digits-fit}
+use Rattle.layout.specs.Windows.{Window, window, digits, reuses, tight, reuse_bits, open_bits, xor_bits, window_after}
+use Rattle.layout.proofs.Xors.{zeros_lt, reused, digits_fit}
 use Rattle.encode.specs.declared.code.PointCode.{PointCode}
-use Rattle.encode.specs.Codes.{xorDigits}
+use Rattle.encode.specs.Codes.{xor_digits}
 use Rattle.encode.specs.Parts.{Holds}
 
 -- ---- control bits
@@ -32,76 +32,76 @@ eleven = refl
 -- ---- the words behind a time
 
 module _ (time : List Bool) (x lead trail : ℕ) where
-  pub reuse-words : (h d : List Bool) → h ≡ time ++ bits_of 2 0b10 → d ≡ bits_of (64 - lead - trail) (x / 2 ^ trail)
-      → h ++ d ≡ time ++ reuseBits 6 (window lead trail) x
-  unfolding reuseBits
-  reuse-words h d e f = rw (e, f, ten, append_assoc)
+  pub reuse_words : (h d : List Bool) → h ≡ time ++ bits_of 2 0b10 → d ≡ bits_of (64 - lead - trail) (x / 2 ^ trail)
+      → h ++ d ≡ time ++ reuse_bits 6 (window lead trail) x
+  unfolding reuse_bits
+  reuse_words h d e f = rw (e, f, ten, append_assoc)
 
-  pub open-words : (a b h d : List Bool) (n : ℕ) → d ≡ bits_of (64 - lead - trail) (x / 2 ^ trail) → n ≡ 64 - lead - trail
+  pub open_words : (a b h d : List Bool) (n : ℕ) → d ≡ bits_of (64 - lead - trail) (x / 2 ^ trail) → n ≡ 64 - lead - trail
       → a ≡ time ++ bits_of 2 0b11 → b ≡ a ++ bits_of 6 lead → h ≡ b ++ bits_of 6 (n - 1)
-      → h ++ d ≡ time ++ openBits 6 (window lead trail) x
-  unfolding openBits
-  open-words a b h d n f m e₁ e₂ e₃ = rw (e₃, e₂, e₁, f, m, eleven) (simp append_assoc)
+      → h ++ d ≡ time ++ open_bits 6 (window lead trail) x
+  unfolding open_bits
+  open_words a b h d n f m e₁ e₂ e₃ = rw (e₃, e₂, e₁, f, m, eleven) (simp append_assoc)
 
-  pub same-words : (h : List Bool) → h ≡ time ++ bits_of 1 0 → x ≡ 0 → h ++ [] ≡ time ++ xorBits 6 (window lead trail) x
-  unfolding xorBits
-  same-words h e z = rw (e, z, none) (append-nil _)
+  pub same_words : (h : List Bool) → h ≡ time ++ bits_of 1 0 → x ≡ 0 → h ++ [] ≡ time ++ xor_bits 6 (window lead trail) x
+  unfolding xor_bits
+  same_words h e z = rw (e, z, none) (append-nil _)
 
 -- ---- a xor by its cases
 
 pub record Xor (w v : Window) (x : ℕ) (bs : List Bool) : Type 0 where
-  pub word : bs ≡ xorBits 6 w x
-  pub size : digits 6 v ≡ xorDigits 6 w x
-  pub after : v ≡ windowAfter 6 w x
+  pub word : bs ≡ xor_bits 6 w x
+  pub size : digits 6 v ≡ xor_digits 6 w x
+  pub after : v ≡ window_after 6 w x
 
-pub xor-none : (w : Window) (x : ℕ) → x ≡ 0 → (0 ≡ xorDigits 6 w x) × (w ≡ windowAfter 6 w x)
-unfolding xorDigits windowAfter
-xor-none w x e = rw e (refl, refl)
+pub xor_none : (w : Window) (x : ℕ) → x ≡ 0 → (0 ≡ xor_digits 6 w x) × (w ≡ window_after 6 w x)
+unfolding xor_digits window_after
+xor_none w x e = rw e (refl, refl)
 
 chosen : {A : Type 0} (b v : Bool) (x y : A) → b ≡ v → cond v x y ≡ cond b x y
 chosen b v x y e = rw e
 
-xor-some : (w v : Window) (x : ℕ) (b : Bool) (bs : List Bool) → 0 < x → reuses 6 w x ≡ b
-    → bs ≡ cond b (reuseBits 6 w x) (openBits 6 (tight 6 x) x) → v ≡ cond b w (tight 6 x) → Xor w v x bs
-unfolding xorBits windowAfter xorDigits
-xor-some w v zero b bs h e f g = absurd (omega arith)
-xor-some w v (suc y) b bs h e f g =
-    let a : v ≡ windowAfter 6 w (suc y) = g ∙ chosen _ _ _ _ e in
+xor_some : (w v : Window) (x : ℕ) (b : Bool) (bs : List Bool) → 0 < x → reuses 6 w x ≡ b
+    → bs ≡ cond b (reuse_bits 6 w x) (open_bits 6 (tight 6 x) x) → v ≡ cond b w (tight 6 x) → Xor w v x bs
+unfolding xor_bits window_after xor_digits
+xor_some w v zero b bs h e f g = absurd (omega arith)
+xor_some w v (suc y) b bs h e f g =
+    let a : v ≡ window_after 6 w (suc y) = g ∙ chosen _ _ _ _ e in
     record { word = f ∙ chosen _ _ _ _ e; size = ap (digits 6) a; after = a }
 
 module _ (l t x : ℕ) (h : 0 < x) (b : Bool) (e : b ≡ (leb l (count_leading_zeros 64 x) && leb t (count_trailing_zeros 64 x))) where
-  by-test : (v : Bool) → b ≡ v → reuses 6 (window l t) x ≡ v
+  by_test : (v : Bool) → b ≡ v → reuses 6 (window l t) x ≡ v
   unfolding reuses
-  by-test v f = sym e ∙ f
+  by_test v f = sym e ∙ f
 
   -- a window that covers the xor
-  pub reuses-it : b ≡ true → reuses 6 (window l t) x ≡ true
-  reuses-it f = by-test true f
+  pub reuses_it : b ≡ true → reuses 6 (window l t) x ≡ true
+  reuses_it f = by_test true f
 
-  pub xor-reused : b ≡ true → Xor (window l t) (window l t) x (reuseBits 6 (window l t) x)
-  xor-reused f = xor-some _ _ x true _ h (by-test true f) refl refl
+  pub xor_reused : b ≡ true → Xor (window l t) (window l t) x (reuse_bits 6 (window l t) x)
+  xor_reused f = xor_some _ _ x true _ h (by_test true f) refl refl
 
   -- one that does not: the tight one is opened
-  pub xor-opened : b ≡ false → Xor (window l t) (tight 6 x) x (openBits 6 (tight 6 x) x)
-  xor-opened f = xor-some _ _ x false _ h (by-test false f) refl refl
+  pub xor_opened : b ≡ false → Xor (window l t) (tight 6 x) x (open_bits 6 (tight 6 x) x)
+  xor_opened f = xor_some _ _ x false _ h (by_test false f) refl refl
 
 -- the tight window covers its xor
-pub tight-reuses : (x : ℕ) → reuses 6 (tight 6 x) x ≡ true
+pub tight_reuses : (x : ℕ) → reuses 6 (tight 6 x) x ≡ true
 unfolding reuses tight
-tight-reuses x = rw (le-leb _ _ (le_refl (count_leading_zeros 64 x)), le-leb _ _ (le_refl (count_trailing_zeros 64 x)))
+tight_reuses x = rw (le-leb _ _ (le_refl (count_leading_zeros 64 x)), le-leb _ _ (le_refl (count_trailing_zeros 64 x)))
 
 -- a window that covers a xor has a digit
-pub covers-room : (l t x : ℕ) → 0 < x → x < 2 ^ 64 → reuses 6 (window l t) x ≡ true → l + t < 64
-covers-room l t x h b e = let r = reused 6 (window l t) x e in omega (arith, zeros-lt 64 x h b, r.0, r.1)
+pub covers_room : (l t x : ℕ) → 0 < x → x < 2 ^ 64 → reuses 6 (window l t) x ≡ true → l + t < 64
+covers_room l t x h b e = let r = reused 6 (window l t) x e in omega (arith, zeros_lt 64 x h b, r.0, r.1)
 
 -- and holds all its digits
-pub covers-digits : (l t x : ℕ) → x < 2 ^ 64 → reuses 6 (window l t) x ≡ true → x / 2 ^ t < 2 ^ (64 - l - t)
-covers-digits l t x b e = digits-fit 6 (window l t) x b (reused 6 (window l t) x e).0
+pub covers_digits : (l t x : ℕ) → x < 2 ^ 64 → reuses 6 (window l t) x ≡ true → x / 2 ^ t < 2 ^ (64 - l - t)
+covers_digits l t x b e = digits_fit 6 (window l t) x b (reused 6 (window l t) x e).0
 
 -- a code of one of the cases is a code of the xor
-pub holds-xor : (time bs : List Bool) (w v : Window) (x : ℕ) (k : PointCode) → Holds k (time ++ bs) (digits 6 v) v → Xor w v x bs
-    → Holds k (time ++ xorBits 6 w x) (xorDigits 6 w x) (windowAfter 6 w x)
-holds-xor time bs w v x k h e = record {
+pub holds_xor : (time bs : List Bool) (w v : Window) (x : ℕ) (k : PointCode) → Holds k (time ++ bs) (digits 6 v) v → Xor w v x bs
+    → Holds k (time ++ xor_bits 6 w x) (xor_digits 6 w x) (window_after 6 w x)
+holds_xor time bs w v x k h e = record {
   head = h.head;
   digits = h.digits;
   size = h.size ∙ e.size;

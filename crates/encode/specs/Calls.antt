@@ -1,11 +1,11 @@
 -- What each call of the encoder answers, the state it returns and the bits it leaves, for all states and inputs: document 01,
 -- "Numbers of refusal", and what an accepted call writes.
 use Rattle.std.specs.Prelude.{Bool, true, false, not, ◌||◌, List, [], ◌∷◌, ℕ, ◌+◌, ◌*◌, eqb, ltb, length}
-use Rattle.stream.specs.Bits.{bits, bytesFor, replaced}
-use Rattle.stream.specs.Refusals.{number_of, when, or_else, byFault}
+use Rattle.stream.specs.Bits.{bits, bytes_for, replaced}
+use Rattle.stream.specs.Refusals.{number_of, when, or_else, by_fault}
 use Rattle.stream.specs.Calls.{limit, Told, given, refused}
-use Rattle.layout.specs.Windows.{window, encoderWindow, badWindow}
-use Rattle.layout.specs.Writing.{Point, state, timeFault, startBits, marker, pointBits, stateAfter}
+use Rattle.layout.specs.Windows.{window, encoder_window, bad_window}
+use Rattle.layout.specs.Writing.{Point, state, time_fault, start_bits, marker, point_bits, state_after}
 use Rattle.encode.specs.declared.std_encoder.EncodeAnswer.{EncodeAnswer}
 use Rattle.encode.specs.declared.std_encoder.EncodeAnswer.TheVariants as encode
 use Rattle.encode.specs.declared.std_encoder.CloseAnswer.{CloseAnswer}
@@ -19,20 +19,20 @@ use Rattle.encode.specs.States.{Enc, enc, kept, progress, view}
 abbrev pub Outcome : Type 0
 Outcome = Told × Enc × List Bool
 
-abbrev pub tellEncode : EncodeAnswer → Told
-tellEncode encode.Done = given []
-tellEncode (encode.Refused r) = refused (number_of r)
+abbrev pub tell_encode : EncodeAnswer → Told
+tell_encode encode.Done = given []
+tell_encode (encode.Refused r) = refused (number_of r)
 
 -- the bits and the bytes in use
-abbrev pub tellClose : CloseAnswer → Told
-tellClose (close.Used b n) = given (b.0 ∷ n.0 ∷ [])
-tellClose (close.Refused r) = refused (number_of r)
+abbrev pub tell_close : CloseAnswer → Told
+tell_close (close.Used b n) = given (b.0 ∷ n.0 ∷ [])
+tell_close (close.Refused r) = refused (number_of r)
 
-abbrev pub toldEncoded : Encoded → List ℕ → Outcome
-toldEncoded r l = (tellEncode r.answer, view r.encoder, bits l)
+abbrev pub told_encoded : Encoded → List ℕ → Outcome
+told_encoded r l = (tell_encode r.answer, view r.encoder, bits l)
 
-abbrev pub toldClosing : Closing → List ℕ → Outcome
-toldClosing r l = (tellClose r.answer, view r.encoder, bits l)
+abbrev pub told_closing : Closing → List ℕ → Outcome
+told_closing r l = (tell_close r.answer, view r.encoder, bits l)
 
 -- a refusal with the state that goes with it; the bits stay
 abbrev pub refusing : Enc → List Bool → ℕ → Outcome
@@ -41,30 +41,30 @@ refusing e bs r = (refused r, e, bs)
 -- ---- refusals, 0 for none; n is the buffer's length in bytes
 
 -- opening: 5, then 1
-unfoldable pub openFault : ℕ → ℕ
-openFault n = or_else (when (ltb limit n) 5) (when (ltb n 13) 1)
+unfoldable pub open_fault : ℕ → ℕ
+open_fault n = or_else (when (ltb limit n) 5) (when (ltb n 13) 1)
 
 -- 1: the bits f of a point, and the marker, do not fit in what is left
-unfoldable pub roomFault : Enc → List Bool → ℕ
-roomFault e f = when (ltb (8 * e.len) (e.at + length f + 36)) 1
+unfoldable pub room_fault : Enc → List Bool → ℕ
+room_fault e f = when (ltb (8 * e.len) (e.at + length f + 36)) 1
 
 -- values of 2^c bits
 module _ (c : ℕ) where
   -- 13: another length than at opening, one above the limit, a position below 64 or without room for the marker behind it, a window
   -- that no state can have
-  unfoldable pub noFit : Enc → ℕ → Bool
-  noFit e n =
+  unfoldable pub no_fit : Enc → ℕ → Bool
+  no_fit e n =
       not (eqb n e.len) || (ltb limit e.len || (ltb e.at 64 || (ltb (8 * e.len) (e.at + 36)
-      || badWindow c e.window)))
+      || bad_window c e.window)))
 
   -- 12, then 13
   unfoldable pub standing : Enc → ℕ → ℕ
-  standing e n = or_else (when e.closed 12) (when (noFit e n) 13)
+  standing e n = or_else (when e.closed 12) (when (no_fit e n) 13)
 
   -- a point: these, then 2, then 3 or 4, then 1
-  unfoldable pub pointFault : Enc → ℕ → Point → ℕ
-  pointFault e n p =
-      or_else (standing e n) (or_else (timeFault (progress e) p.time) (roomFault e (pointBits c (progress e) p)))
+  unfoldable pub point_fault : Enc → ℕ → Point → ℕ
+  point_fault e n p =
+      or_else (standing e n) (or_else (time_fault (progress e) p.time) (room_fault e (point_bits c (progress e) p)))
 
 -- ---- states after a call
 
@@ -79,31 +79,31 @@ marked e = enc e.len e.at (kept e) e.first true
 module _ (c : ℕ) where
   -- behind the start
   unfoldable pub fresh : ℕ → ℕ → Enc
-  fresh n start = enc n 64 (state start 0 0 (encoderWindow c)) true false
+  fresh n start = enc n 64 (state start 0 0 (encoder_window c)) true false
 
   -- behind a point's bits, with the layout's state after it
   unfoldable pub after : Enc → Point → Enc
-  after e p = enc e.len (e.at + length (pointBits c (progress e) p)) (stateAfter c (progress e) p) false false
+  after e p = enc e.len (e.at + length (point_bits c (progress e) p)) (state_after c (progress e) p) false false
 
   -- ---- the calls; bs are the buffer's bits
 
   -- the start is written
-  unfoldable pub openOf : ℕ → ℕ → List Bool → Outcome
-  openOf start n bs =
-      byFault {A = Outcome} (openFault n)
-      (given [], fresh n start, replaced bs 0 (startBits start))
+  unfoldable pub open_of : ℕ → ℕ → List Bool → Outcome
+  open_of start n bs =
+      by_fault {A = Outcome} (open_fault n)
+      (given [], fresh n start, replaced bs 0 (start_bits start))
       (refusing shut bs)
 
   -- the point's bits are written
-  unfoldable pub encodeOf : Enc → ℕ → List Bool → Point → Outcome
-  encodeOf e n bs p =
-      byFault {A = Outcome} (pointFault c e n p)
-      (given [], after e p, replaced bs e.at (pointBits c (progress e) p))
+  unfoldable pub encode_of : Enc → ℕ → List Bool → Point → Outcome
+  encode_of e n bs p =
+      by_fault {A = Outcome} (point_fault c e n p)
+      (given [], after e p, replaced bs e.at (point_bits c (progress e) p))
       (refusing e bs)
 
   -- the marker is written, for which room was kept: never 1
-  unfoldable pub closeOf : Enc → ℕ → List Bool → Outcome
-  closeOf e n bs =
-      byFault {A = Outcome} (standing c e n)
-      (given ((e.at + 36) ∷ bytesFor (e.at + 36) ∷ []), marked e, replaced bs e.at marker)
+  unfoldable pub close_of : Enc → ℕ → List Bool → Outcome
+  close_of e n bs =
+      by_fault {A = Outcome} (standing c e n)
+      (given ((e.at + 36) ∷ bytes_for (e.at + 36) ∷ []), marked e, replaced bs e.at marker)
       (refusing e bs)

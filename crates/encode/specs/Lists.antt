@@ -5,7 +5,7 @@ use Rattle.stream.specs.Calls.{Told, given, refused}
 use Rattle.layout.specs.Writing.{Point, point_of}
 use Rattle.encode.specs.declared.pack.Packed.{Packed}
 use Rattle.encode.specs.States.{Enc, view}
-use Rattle.encode.specs.Calls.{Outcome, tellEncode, encodeOf}
+use Rattle.encode.specs.Calls.{Outcome, tell_encode, encode_of}
 
 -- the points of two lists, as many as the shorter has
 unfoldable pub pairs : List ℕ → List ℕ → List Point
@@ -17,23 +17,23 @@ pairs (t ∷ ts) (v ∷ vs) = point_of t v ∷ pairs ts vs
 abbrev pub Packing : Type 0
 Packing = ℕ × Outcome
 
-abbrev pub toldPacked : Packed → List ℕ → Packing
-toldPacked r l = (r.accepted, (tellEncode r.answer, view r.encoder, bits l))
+abbrev pub told_packed : Packed → List ℕ → Packing
+told_packed r l = (r.accepted, (tell_encode r.answer, view r.encoder, bits l))
 
 -- one more was accepted
-abbrev pub oneMore : Packing → Packing
-oneMore o = (suc o.0, o.1)
+abbrev pub one_more : Packing → Packing
+one_more o = (suc o.0, o.1)
 
 -- goes on where a call was not refused
-unfoldable pub onTold : {A : Type 0} → Told → A → A → A
-onTold (given vs) onward stop = onward
-onTold (refused r) onward stop = stop
+unfoldable pub on_told : {A : Type 0} → Told → A → A → A
+on_told (given vs) onward stop = onward
+on_told (refused r) onward stop = stop
 
 -- n is the buffer's length in bytes, bs its bits, and values have 2^c bits
 module _ (c : ℕ) where
-  unfoldable pub packsOf : Enc → ℕ → List Bool → List Point → Packing
-  packsOf e n bs [] = (0, (given [], e, bs))
-  packsOf e n bs (p ∷ ps) =
-      onTold (encodeOf c e n bs p).0
-      (oneMore (packsOf (encodeOf c e n bs p).1 n (encodeOf c e n bs p).2 ps))
-      (0, encodeOf c e n bs p)
+  unfoldable pub packs_of : Enc → ℕ → List Bool → List Point → Packing
+  packs_of e n bs [] = (0, (given [], e, bs))
+  packs_of e n bs (p ∷ ps) =
+      on_told (encode_of c e n bs p).0
+      (one_more (packs_of (encode_of c e n bs p).1 n (encode_of c e n bs p).2 ps))
+      (0, encode_of c e n bs p)

@@ -6,7 +6,7 @@ use Rattle.stream.specs.Refusals.{number_of}
 use Rattle.stream.specs.Calls.{Told, given, refused}
 use Rattle.stream.specs.declared.refusal.Refusal.{Refusal}
 use Rattle.layout.specs.Windows.{Window, window}
-use Rattle.layout.specs.Writing.{Point, state, Progress, in_range, timeFault, pointBits, stateAfter}
+use Rattle.layout.specs.Writing.{Point, state, Progress, in_range, time_fault, point_bits, state_after}
 use Rattle.encode.specs.declared.code.Code.{Code}
 use Rattle.encode.specs.declared.code.PointCode.{PointCode}
 use Rattle.encode.specs.declared.code.CodeAnswer.{CodeAnswer}
@@ -19,21 +19,21 @@ use Rattle.encode.specs.declared.std_encoder.Standing.TheVariants as stands
 use Rattle.encode.specs.declared.std_encoder.Encoded.{Encoded}
 use Rattle.encode.specs.declared.pack.Packed.{Packed}
 use Rattle.encode.specs.States.{Enc, enc}
-use Rattle.encode.specs.Codes.{digitsIn}
+use Rattle.encode.specs.Codes.{digits_in}
 use Rattle.encode.specs.Lists.{Packing}
 
 -- the number of what keeps a state from a call, 0 for nothing
-abbrev pub faultOf : Standing → ℕ
-faultOf stands.Clear = 0
-faultOf (stands.Refused r) = number_of r
+abbrev pub fault_of : Standing → ℕ
+fault_of stands.Clear = 0
+fault_of (stands.Refused r) = number_of r
 
 -- a refusal, with the state that goes with it
-unfoldable pub refusedBy : Enc → Refusal → Told × Enc
-refusedBy e r = (refused (number_of r), e)
+unfoldable pub refused_by : Enc → Refusal → Told × Enc
+refused_by e r = (refused (number_of r), e)
 
 -- a dod, if it is in range
-unfoldable pub dodFor : ℕ → ℕ → Dod
-dodFor delta previous = cond (in_range (sub_ℕ delta previous)) (In (sub_ℕ delta previous)) Out
+unfoldable pub dod_for : ℕ → ℕ → Dod
+dod_for delta previous = cond (in_range (sub_ℕ delta previous)) (In (sub_ℕ delta previous)) Out
 
 -- the bits that a code holds
 unfoldable pub word_of : Code → List Bool
@@ -46,8 +46,8 @@ Short k = k.bits < 2 ^ k.len
 unfoldable pub words : PointCode → List Bool
 words k = word_of k.head ++ word_of k.digits
 
-abbrev pub windowOf : PointCode → Window
-windowOf k = window k.leading k.trailing
+abbrev pub window_of : PointCode → Window
+window_of k = window k.leading k.trailing
 
 -- a point's code that holds the bits bs, the last n of them in its digits, with the window w
 pub record Holds (k : PointCode) (bs : List Bool) (n : ℕ) (w : Window) : Type 0 where
@@ -55,15 +55,15 @@ pub record Holds (k : PointCode) (bs : List Bool) (n : ℕ) (w : Window) : Type 
   pub digits : (k.digits.len ≤ 64) × Short k.digits
   pub size : k.digits.len ≡ n
   pub held : words k ≡ bs
-  pub window : windowOf k ≡ w
+  pub window : window_of k ≡ w
 
 -- the code of a point, or why its time is refused
 abbrev pub Coded : Progress → Point → PointCode → Type 0
-Coded g p k = (0 ≡ timeFault g p.time) × Holds k (pointBits 6 g p) (digitsIn 6 g p) (stateAfter 6 g p).window
+Coded g p k = (0 ≡ time_fault g p.time) × Holds k (point_bits 6 g p) (digits_in 6 g p) (state_after 6 g p).window
 
 unfoldable pub Meets : Progress → Point → CodeAnswer → Type 0
 Meets g p (code.Code k) = Coded g p k
-Meets g p (code.Refused r) = number_of r ≡ timeFault g p.time
+Meets g p (code.Refused r) = number_of r ≡ time_fault g p.time
 
 -- ---- zeros that wait
 
@@ -91,5 +91,5 @@ unfoldable pub counted : ℕ → Encoded → Packed
 counted k r = record { accepted = k; answer = r.answer; encoder = r.encoder }
 
 -- all k points were accepted
-unfoldable pub allTaken : ℕ → Enc → List Bool → Packing
-allTaken k e bs = (k, (given [], e, bs))
+unfoldable pub all_taken : ℕ → Enc → List Bool → Packing
+all_taken k e bs = (k, (given [], e, bs))

@@ -29,11 +29,11 @@ abbrev pub kept : Enc → State
 kept e = state e.time e.delta e.value e.window
 
 -- how far a series is: at its start, or after a point
-unfoldable pub progressBy : Bool → State → Progress
-progressBy first s = cond first (begun s.time s.window) (going s)
+unfoldable pub progress_by : Bool → State → Progress
+progress_by first s = cond first (begun s.time s.window) (going s)
 
 abbrev pub progress : Enc → Progress
-progress e = progressBy e.first (kept e)
+progress e = progress_by e.first (kept e)
 
 abbrev pub view : StdEncoder → Enc
 view e =
@@ -48,8 +48,8 @@ abbrev pub last_of : Enc → Last
 last_of e =
     record { time = e.time; delta = e.delta; value_bits = e.value; leading_zeroes = e.window.lead; trailing_zeroes = e.window.trail; first = e.first }
 
-abbrev pub stateIn : Last → State
-stateIn k = state k.time k.delta k.value_bits (window k.leading_zeroes k.trailing_zeroes)
+abbrev pub state_in : Last → State
+state_in k = state k.time k.delta k.value_bits (window k.leading_zeroes k.trailing_zeroes)
 
-abbrev pub progressIn : Last → Progress
-progressIn k = progressBy k.first (stateIn k)
+abbrev pub progress_in : Last → Progress
+progress_in k = progress_by k.first (state_in k)

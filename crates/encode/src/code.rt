@@ -3,9 +3,9 @@
 ghost use Rattle.std.specs.Prelude.{◌≡◌, true, ◌&&◌, ◌++◌, ◌+◌, ◌-◌, ◌/◌, ◌^◌, ◌≤◌, ◌<◌, leb};
 ghost use Rattle.stream.specs.Bits.{bits_of};
 ghost use Rattle.layout.specs.Rows.{Good, fits};
-ghost use Rattle.layout.specs.Windows.{window, digits, reuses, reuseBits, openBits, xorBits, windowAfter};
-ghost use Rattle.layout.specs.Writing.{in_range, in_row, dodBits};
-ghost use Rattle.encode.specs.Codes.{xorDigits};
+ghost use Rattle.layout.specs.Windows.{window, digits, reuses, reuse_bits, open_bits, xor_bits, window_after};
+ghost use Rattle.layout.specs.Writing.{in_range, in_row, dod_bits};
+ghost use Rattle.encode.specs.Codes.{xor_digits};
 ghost use Rattle.encode.specs.Parts.{word_of, Short, Holds};
 
 use super::dod::{field_of, row_of};
@@ -65,7 +65,7 @@ fn row_code(r: Row, d: i64) -> Code
 // A dod: a single 0, or the first row that takes it.
 pub(super) fn time_code(d: i64) -> Code
     requires { in_range d ≡ true }
-    ensures { (result.len ≤ 36) × (Short result) × (word_of result ≡ dodBits d) }
+    ensures { (result.len ≤ 36) × (Short result) × (word_of result ≡ dod_bits d) }
 {
     if d == 0 {
         return Code { bits: 0, len: 1 };
@@ -89,7 +89,7 @@ fn reuse(time: Code, x: u64, lead: u32, trail: u32) -> PointCode
     requires len_bound { (time.len ≤ 36) × Short time }
     requires trail_bound { lead + trail < 64 }
     requires x_value { reuses 6 (window lead trail) x ≡ true }
-    ensures { Holds result (word_of time ++ reuseBits 6 (window lead trail) x) (digits 6 (window lead trail)) (window lead trail) }
+    ensures { Holds result (word_of time ++ reuse_bits 6 (window lead trail) x) (digits 6 (window lead trail)) (window lead trail) }
 {
     let digits = digits_of(x, lead, trail);
     let head = join(time, 0b10, 2);
@@ -106,7 +106,7 @@ fn open_window(time: Code, x: u64, lead: u32, trail: u32) -> PointCode
     requires len_bound { (time.len ≤ 36) × Short time }
     requires trail_bound { lead + trail < 64 }
     requires x_value { reuses 6 (window lead trail) x ≡ true }
-    ensures { Holds result (word_of time ++ openBits 6 (window lead trail) x) (digits 6 (window lead trail)) (window lead trail) }
+    ensures { Holds result (word_of time ++ open_bits 6 (window lead trail) x) (digits 6 (window lead trail)) (window lead trail) }
 {
     let digits = digits_of(x, lead, trail);
     let control = join(time, 0b11, 2);
@@ -134,7 +134,7 @@ fn covers(lead: u32, trail: u32, leading: u32, trailing: u32) -> bool
 // Behind a time: a xor, in the last window opened if it covers it.
 pub(super) fn value_code(time: Code, x: u64, lead: u32, trail: u32) -> PointCode
     requires { (time.len ≤ 36) × Short time }
-    ensures { Holds result (word_of time ++ xorBits 6 (window lead trail) x) (xorDigits 6 (window lead trail) x) (windowAfter 6 (window lead trail) x) }
+    ensures { Holds result (word_of time ++ xor_bits 6 (window lead trail) x) (xor_digits 6 (window lead trail) x) (window_after 6 (window lead trail) x) }
 {
     if x == 0 {
         let head = join(time, 0, 1);

@@ -3,8 +3,8 @@
 ghost use Rattle.std.specs.Prelude.{◌≡◌, true, ◌^◌, ◌≤◌, ◌<◌, pos, nat_abs};
 ghost use Rattle.std.specs.Int.Signed.{lt_z};
 ghost use Rattle.layout.specs.Rows.{Good, rows, fits, raw};
-ghost use Rattle.layout.specs.Writing.{in_range, in_row, rowBits};
-ghost use Rattle.encode.specs.Parts.{dodFor};
+ghost use Rattle.layout.specs.Writing.{in_range, in_row, row_bits};
+ghost use Rattle.encode.specs.Parts.{dod_for};
 
 use layout::{Row, row_at};
 
@@ -17,7 +17,7 @@ pub enum Dod {
 
 // delta - previous, or `Out` where that is not in -(2^31 - 1) to 2^31. The difference is made of unsigned numbers, so that it is never cut.
 pub(super) fn dod_between(delta: u64, previous: u64) -> Dod
-    ensures { result ≡ dodFor delta previous }
+    ensures { result ≡ dod_for delta previous }
 {
     if previous <= delta {
         let up = delta - previous;
@@ -80,7 +80,7 @@ fn in_row(r: Row, d: i64) -> bool
 // The first row that takes d. The last takes every dod in range.
 pub(super) fn row_of(d: i64) -> Row
     requires { in_range d ≡ true }
-    ensures { (rowBits rows d ≡ in_row result d) × (fits result d ≡ true) × Good result }
+    ensures { (row_bits rows d ≡ in_row result d) × (fits result d ≡ true) × Good result }
 {
     let mut i: usize = 0;
     while i < 3 {

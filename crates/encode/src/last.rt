@@ -1,8 +1,8 @@
 // The last point, and the code of the one that follows it. No buffer is needed to tell it.
 
 ghost use Rattle.std.specs.Prelude.{◌≡◌, true, false, ◌≤◌};
-ghost use Rattle.encode.specs.States.{point_of, progressIn};
-ghost use Rattle.encode.specs.Codes.{tellCode, code_of};
+ghost use Rattle.encode.specs.States.{point_of, progress_in};
+ghost use Rattle.encode.specs.Codes.{tell_code, code_of};
 ghost use Rattle.encode.specs.Parts.{Meets};
 
 use super::code::{Code, CodeAnswer, PointCode, time_code, value_code};
@@ -25,7 +25,7 @@ pub struct Last {
 fn first_code(k: Last, p: Stored) -> CodeAnswer
     requires first_value { k.first ≡ true }
     requires time_le_time { k.time ≤ p.time }
-    ensures { Meets (progressIn k) (point_of p) result }
+    ensures { Meets (progress_in k) (point_of p) result }
 {
     let delta = p.time - k.time;
     if 16_383 < delta {
@@ -53,7 +53,7 @@ fn first_code(k: Last, p: Stored) -> CodeAnswer
 fn later_code(k: Last, p: Stored) -> CodeAnswer
     requires first_value { k.first ≡ false }
     requires time_le_time { k.time ≤ p.time }
-    ensures { Meets (progressIn k) (point_of p) result }
+    ensures { Meets (progress_in k) (point_of p) result }
 {
     let delta = p.time - k.time;
     let dod = dod_between(delta, k.delta);
@@ -70,7 +70,7 @@ fn later_code(k: Last, p: Stored) -> CodeAnswer
 
 // The code of a point: 2, then 3 or 4.
 pub(super) fn code_after(k: Last, p: Stored) -> CodeAnswer
-    ensures { Meets (progressIn k) (point_of p) result }
+    ensures { Meets (progress_in k) (point_of p) result }
 {
     if p.time < k.time {
         return CodeAnswer::Refused(Refusal::TimeFalls);
@@ -84,7 +84,7 @@ pub(super) fn code_after(k: Last, p: Stored) -> CodeAnswer
 impl Last {
     // The code of a point that follows: 2, then 3 or 4.
     pub fn code_of(self, point: Stored) -> CodeAnswer
-        ensures { tellCode result ≡ code_of 6 (progressIn self) (point_of point) }
+        ensures { tell_code result ≡ code_of 6 (progress_in self) (point_of point) }
     {
         code_after(self, point)
     }

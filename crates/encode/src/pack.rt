@@ -5,9 +5,9 @@ ghost use Rattle.std.specs.Prelude.{◌≡◌, true, ◌+◌, ◌*◌, ◌≤◌
 ghost use Rattle.stream.specs.Bits.{bits};
 ghost use Rattle.stream.specs.Calls.{limit};
 ghost use Rattle.encode.specs.States.{view, point_of};
-ghost use Rattle.encode.specs.Calls.{toldEncoded, standing, encodeOf};
-ghost use Rattle.encode.specs.Lists.{pairs, toldPacked, packsOf};
-ghost use Rattle.encode.specs.Parts.{ahead, zeroed, MayWait, Repeats, counted, allTaken};
+ghost use Rattle.encode.specs.Calls.{told_encoded, standing, encode_of};
+ghost use Rattle.encode.specs.Lists.{pairs, told_packed, packs_of};
+ghost use Rattle.encode.specs.Parts.{ahead, zeroed, MayWait, Repeats, counted, all_taken};
 
 use super::code::Code;
 use super::put::{bits_before, put};
@@ -77,7 +77,7 @@ fn catch_up(e: StdEncoder, buf: &mut [u8], time: u64, zeros: u32) -> StdEncoder
 fn offer_behind(e: StdEncoder, buf: &mut [u8], time: u64, zeros: u32, p: Stored) -> Encoded
     requires value { 0 ≡ standing 6 (view e) (length buf.old) }
     requires may_wait { MayWait zeros e }
-    ensures { (toldEncoded result buf.new ≡ encodeOf 6 (ahead time zeros (view e)) (length buf.old) (zeroed (bits buf.old) e.w.at.0 zeros) (point_of p)) × (0 ≡ standing 6 (view result.encoder) (length buf.old)) }
+    ensures { (told_encoded result buf.new ≡ encode_of 6 (ahead time zeros (view e)) (length buf.old) (zeroed (bits buf.old) e.w.at.0 zeros) (point_of p)) × (0 ≡ standing 6 (view result.encoder) (length buf.old)) }
 {
     let behind = catch_up(e, buf, time, zeros);
     offer(behind, buf, p)
@@ -102,7 +102,7 @@ fn with_count(accepted: usize, r: Encoded) -> Packed
 fn packed_all(e: StdEncoder, buf: &mut [u8], time: u64, zeros: u32, n: usize) -> Packed
     requires value { 0 ≡ standing 6 (view e) (length buf.old) }
     requires may_wait { MayWait zeros e }
-    ensures { toldPacked result buf.new ≡ allTaken n (ahead time zeros (view e)) (zeroed (bits buf.old) e.w.at.0 zeros) }
+    ensures { told_packed result buf.new ≡ all_taken n (ahead time zeros (view e)) (zeroed (bits buf.old) e.w.at.0 zeros) }
 {
     let encoder = catch_up(e, buf, time, zeros);
     Packed {
@@ -115,7 +115,7 @@ fn packed_all(e: StdEncoder, buf: &mut [u8], time: u64, zeros: u32, n: usize) ->
 // Offers the points of two lists to a state that fits the buffer.
 fn pack_points(encoder: StdEncoder, buf: &mut [u8], times: &[u64], values: &[u64]) -> Packed
     requires { 0 ≡ standing 6 (view encoder) (length buf.old) }
-    ensures { toldPacked result buf.new ≡ packsOf 6 (view encoder) (length buf.old) (bits buf.old) (pairs times.now values.now) }
+    ensures { told_packed result buf.new ≡ packs_of 6 (view encoder) (length buf.old) (bits buf.old) (pairs times.now values.now) }
 {
     let n = points_in(times, values);
     let mut e = encoder;
@@ -155,7 +155,7 @@ fn pack_points(encoder: StdEncoder, buf: &mut [u8], times: &[u64], values: &[u64
 
 // Offers the points of two lists, as many as the shorter has, until one is refused.
 pub fn pack_some(encoder: StdEncoder, buf: &mut [u8], times: &[u64], values: &[u64]) -> Packed
-    ensures { toldPacked result buf.new ≡ packsOf 6 (view encoder) (length buf.old) (bits buf.old) (pairs times.now values.now) }
+    ensures { told_packed result buf.new ≡ packs_of 6 (view encoder) (length buf.old) (bits buf.old) (pairs times.now values.now) }
 {
     // where there is no point, nothing is refused
     if points_in(times, values) == 0 {

@@ -3,11 +3,11 @@
 ghost use Rattle.std.specs.Prelude.{◌≡◌, length};
 ghost use Rattle.stream.specs.Bits.{value_of, bits};
 ghost use Rattle.layout.specs.Writing.{marker};
-ghost use Rattle.point.specs.Points.{toStored};
+ghost use Rattle.point.specs.Points.{to_stored};
 ghost use Rattle.encode.specs.States.{progress, view, point_of, last_of};
-ghost use Rattle.encode.specs.Codes.{tellCode, code_of};
-ghost use Rattle.encode.specs.Calls.{tellEncode, toldEncoded, toldClosing, shut, noFit, standing, openOf, encodeOf, closeOf};
-ghost use Rattle.encode.specs.Parts.{faultOf, refusedBy, Coded};
+ghost use Rattle.encode.specs.Codes.{tell_code, code_of};
+ghost use Rattle.encode.specs.Calls.{tell_encode, told_encoded, told_closing, shut, no_fit, standing, open_of, encode_of, close_of};
+ghost use Rattle.encode.specs.Parts.{fault_of, refused_by, Coded};
 
 use super::code::{Code, CodeAnswer, PointCode};
 use super::last::{Last, code_after};
@@ -69,7 +69,7 @@ pub(super) enum Standing {
 
 // The state is not one that an encoder on a buffer of n bytes can be in.
 fn no_fit(e: StdEncoder, n: usize) -> bool
-    ensures { result ≡ noFit 6 (view e) n }
+    ensures { result ≡ no_fit 6 (view e) n }
 {
     let len = e.len.get();
     let at = bits_before(e.w);
@@ -96,7 +96,7 @@ fn no_fit(e: StdEncoder, n: usize) -> bool
 
 // 12, then 13.
 pub(super) fn standing_of(e: StdEncoder, n: usize) -> Standing
-    ensures { faultOf result ≡ standing 6 (view e) n }
+    ensures { fault_of result ≡ standing 6 (view e) n }
 {
     if e.closed {
         return Standing::Refused(Refusal::Closed);
@@ -111,7 +111,7 @@ pub(super) fn standing_of(e: StdEncoder, n: usize) -> Standing
 
 // The encoder that was given, and why a point is refused.
 fn refuse(e: StdEncoder, why: Refusal) -> Encoded
-    ensures { (tellEncode result.answer, view result.encoder) ≡ refusedBy (view e) why }
+    ensures { (tell_encode result.answer, view result.encoder) ≡ refused_by (view e) why }
 {
     let answer = EncodeAnswer::Refused(why);
     let encoder = e;
@@ -122,7 +122,7 @@ fn refuse(e: StdEncoder, why: Refusal) -> Encoded
 fn write_point(e: StdEncoder, buf: &mut [u8], p: Stored, k: PointCode) -> Encoded
     requires value { 0 ≡ standing 6 (view e) (length buf.old) }
     requires coded { Coded (progress (view e)) (point_of p) k }
-    ensures { (toldEncoded result buf.new ≡ encodeOf 6 (view e) (length buf.old) (bits buf.old) (point_of p)) × (0 ≡ standing 6 (view result.encoder) (length buf.old)) }
+    ensures { (told_encoded result buf.new ≡ encode_of 6 (view e) (length buf.old) (bits buf.old) (point_of p)) × (0 ≡ standing 6 (view result.encoder) (length buf.old)) }
 {
     let delta = p.time - e.time;
     let len = e.len;
@@ -153,7 +153,7 @@ fn write_point(e: StdEncoder, buf: &mut [u8], p: Stored, k: PointCode) -> Encode
 // A point offered to a state that fits the buffer, as the state after it does.
 pub(super) fn offer(e: StdEncoder, buf: &mut [u8], p: Stored) -> Encoded
     requires { 0 ≡ standing 6 (view e) (length buf.old) }
-    ensures { (toldEncoded result buf.new ≡ encodeOf 6 (view e) (length buf.old) (bits buf.old) (point_of p)) × (0 ≡ standing 6 (view result.encoder) (length buf.old)) }
+    ensures { (told_encoded result buf.new ≡ encode_of 6 (view e) (length buf.old) (bits buf.old) (point_of p)) × (0 ≡ standing 6 (view result.encoder) (length buf.old)) }
 {
     let code = code_after(e.last(), p);
     match code {
@@ -166,7 +166,7 @@ pub(super) fn offer(e: StdEncoder, buf: &mut [u8], p: Stored) -> Encoded
 
 // What a refused opening returns: a closed encoder, its other fields zero.
 fn never_opened(why: Refusal) -> Encoded
-    ensures { (tellEncode result.answer, view result.encoder) ≡ refusedBy shut why }
+    ensures { (tell_encode result.answer, view result.encoder) ≡ refused_by shut why }
 {
     let answer = EncodeAnswer::Refused(why);
     let len = ByteCount::new(0);
@@ -188,7 +188,7 @@ fn never_opened(why: Refusal) -> Encoded
 // Writes the marker behind a state that fits the buffer.
 fn finish(e: StdEncoder, buf: &mut [u8]) -> Closing
     requires { 0 ≡ standing 6 (view e) (length buf.old) }
-    ensures { toldClosing result buf.new ≡ closeOf 6 (view e) (length buf.old) (bits buf.old) }
+    ensures { told_closing result buf.new ≡ close_of 6 (view e) (length buf.old) (bits buf.old) }
 {
     let behind = put(e.w, buf, StdEncoder::end_marker());
     let end = behind.position();
@@ -217,7 +217,7 @@ impl StdEncoder {
 
     // Opens an encoder of a series that begins at start, and writes the start: 5, then 1.
     pub fn open(start: u64, buf: &mut [u8]) -> Encoded
-        ensures { toldEncoded result buf.new ≡ openOf 6 start (length buf.old) (bits buf.old) }
+        ensures { told_encoded result buf.new ≡ open_of 6 start (length buf.old) (bits buf.old) }
     {
         let n = buf.len();
         if LIMIT < n {
@@ -264,14 +264,14 @@ impl StdEncoder {
 
     // The code of a point behind what the encoder has written, whether or not there is room for it: 2, then 3 or 4.
     pub fn code_of(self, point: Stored) -> CodeAnswer
-        ensures { tellCode result ≡ code_of 6 (progress (view self)) (point_of point) }
+        ensures { tell_code result ≡ code_of 6 (progress (view self)) (point_of point) }
     {
         self.last().code_of(point)
     }
 
     // Offers a point: 12, 13, then 2, then 3 or 4, then 1.
     pub fn encode(self, buf: &mut [u8], point: Stored) -> Encoded
-        ensures { toldEncoded result buf.new ≡ encodeOf 6 (view self) (length buf.old) (bits buf.old) (point_of point) }
+        ensures { told_encoded result buf.new ≡ encode_of 6 (view self) (length buf.old) (bits buf.old) (point_of point) }
     {
         let standing = standing_of(self, buf.len());
         match standing {
@@ -282,14 +282,14 @@ impl StdEncoder {
 
     // The same for a point with a float; a NaN's payload is lost before it comes here.
     pub fn encode_point(self, buf: &mut [u8], point: DataPoint) -> Encoded
-        ensures { toldEncoded result buf.new ≡ encodeOf 6 (view self) (length buf.old) (bits buf.old) (point_of (toStored point)) }
+        ensures { told_encoded result buf.new ≡ encode_of 6 (view self) (length buf.old) (bits buf.old) (point_of (to_stored point)) }
     {
         self.encode(buf, point.to_stored())
     }
 
     // Closes the stream with the marker, for which room was kept: 12, then 13.
     pub fn close(self, buf: &mut [u8]) -> Closing
-        ensures { toldClosing result buf.new ≡ closeOf 6 (view self) (length buf.old) (bits buf.old) }
+        ensures { told_closing result buf.new ≡ close_of 6 (view self) (length buf.old) (bits buf.old) }
     {
         let standing = standing_of(self, buf.len());
         match standing {

@@ -12,7 +12,7 @@ use lib.Signed.{le_z}
 use borrow.Author.Tests.{leb-true, lt-ltb, le-ltb}
 use Rattle.stream.specs.Bits.{odd, bits_of}
 use Rattle.layout.specs.declared.Row.{Row}
-use Rattle.layout.specs.Rows.{minus, within, row7, longerRows, fits, inField, raw, signed, Spans}
+use Rattle.layout.specs.Rows.{minus, within, row7, longer_rows, fits, in_field, raw, signed, Spans}
 use Rattle.layout.specs.Promises.{FieldBack, FieldsBack, Every, RowsBack}
 use Rattle.layout.proofs.Tests.{never, both}
 
@@ -50,32 +50,32 @@ field_back n (negsuc a) h e =
     }
 
 -- what a field takes is no larger than its numbers
-pub field-size : (n : ℕ) (d : ℤ) → 1 ≤ n → inField n d ≡ true → nat_abs d ≤ 2 ^ n
-field-size n (pos a) h e = omega (arith, upper _ _ a e, double n h)
-field-size n (negsuc a) h e = omega (arith, lower (2 ^ (n - 1) - 1) _ a e, double n h)
+pub field_size : (n : ℕ) (d : ℤ) → 1 ≤ n → in_field n d ≡ true → nat_abs d ≤ 2 ^ n
+field_size n (pos a) h e = omega (arith, upper _ _ a e, double n h)
+field_size n (negsuc a) h e = omega (arith, lower (2 ^ (n - 1) - 1) _ a e, double n h)
 
 -- only the dod 0 has a field of 0
-pub raw-some : (n : ℕ) (d : ℤ) → 1 ≤ n → inField n d ≡ true → ¬ (d ≡ pos 0) → 0 < raw n d
+pub raw_some : (n : ℕ) (d : ℤ) → 1 ≤ n → in_field n d ≡ true → ¬ (d ≡ pos 0) → 0 < raw n d
 unfolding raw
-raw-some n (pos zero) h e z = absurd (z refl)
-raw-some n (pos (suc a)) h e z = omega arith
-raw-some n (negsuc a) h e z = omega (arith, lower (2 ^ (n - 1) - 1) _ a e, double n h)
+raw_some n (pos zero) h e z = absurd (z refl)
+raw_some n (pos (suc a)) h e z = omega arith
+raw_some n (negsuc a) h e z = omega (arith, lower (2 ^ (n - 1) - 1) _ a e, double n h)
 
 -- ---- the table
 
-pub in-row : (r : Row) (d : ℤ) → Spans r → fits r d ≡ true → inField r.width d ≡ true
-in-row r d s e = rw (s.lo, s.hi) at e
+pub in_row_lem : (r : Row) (d : ℤ) → Spans r → fits r d ≡ true → in_field r.width d ≡ true
+in_row_lem r d s e = rw (s.lo, s.hi) at e
 
 -- so what it takes comes back
-pub span-back : (r : Row) (d : ℤ) → Spans r → fits r d ≡ true → FieldBack r.width d
-span-back r d s e = field_back r.width d s.some (in-row r d s e)
+pub span_back : (r : Row) (d : ℤ) → Spans r → fits r d ≡ true → FieldBack r.width d
+span_back r d s e = field_back r.width d s.some (in_row_lem r d s e)
 
 -- the control bits: behind those that are shared, `pre`, a row has 0 and the rows after it 1; the last has no more
 abbrev pub Chain : List Bool → Row → List Row → Type 0
 Chain pre r [] = Spans r × (bits_of r.prefix_len r.prefix ≡ pre)
 Chain pre r (r' ∷ rs) = Spans r × (bits_of r.prefix_len r.prefix ≡ pre ++ (false ∷ [])) × Chain (pre ++ (true ∷ [])) r' rs
 
-pub table : Chain (true ∷ []) row7 longerRows
+pub table : Chain (true ∷ []) row7 longer_rows
 unfolding bits_of odd
 table = (spans _ (lit≤ tt) refl refl, refl, (spans _ (lit≤ tt) refl refl, refl, (spans _ (lit≤ tt) refl refl, refl, (spans _ (lit≤ tt) refl refl, refl))))
   where
@@ -83,8 +83,8 @@ table = (spans _ (lit≤ tt) refl refl, refl, (spans _ (lit≤ tt) refl refl, re
     spans r some lo hi = record { some = some; lo = lo; hi = hi }
 
 chain_back : (pre : List Bool) (r : Row) (rs : List Row) → Chain pre r rs → Every (λ (r : Row). (d : ℤ) → fits r d ≡ true → FieldBack r.width d) (r ∷ rs)
-chain_back pre r [] t = (λ d e. span-back r d t.0 e, tt)
-chain_back pre r (r' ∷ rs) t = (λ d e. span-back r d t.0 e, chain_back (pre ++ (true ∷ [])) r' rs t.2)
+chain_back pre r [] t = (λ d e. span_back r d t.0 e, tt)
+chain_back pre r (r' ∷ rs) t = (λ d e. span_back r d t.0 e, chain_back (pre ++ (true ∷ [])) r' rs t.2)
 
 pub rows_back : RowsBack
-rows_back = chain_back (true ∷ []) row7 longerRows table
+rows_back = chain_back (true ∷ []) row7 longer_rows table

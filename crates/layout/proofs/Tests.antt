@@ -15,19 +15,19 @@ pub both : (a b : Bool) → (a && b) ≡ true → (a ≡ true) × (b ≡ true)
 both true b e = (refl, e)
 both false b e = never false e refl
 
-pub and-true : (a b : Bool) → a ≡ true → (a && b) ≡ b
-and-true a b e = rw e
+pub and_true : (a b : Bool) → a ≡ true → (a && b) ≡ b
+and_true a b e = rw e
 
-pub and-false : (a b : Bool) → a ≡ false → (a && b) ≡ false
-and-false a b e = rw e
+pub and_false : (a b : Bool) → a ≡ false → (a && b) ≡ false
+and_false a b e = rw e
 
-pub and-never : (a b : Bool) → b ≡ false → (a && b) ≡ false
-and-never true b e = e
-and-never false b e = refl
+pub and_never : (a b : Bool) → b ≡ false → (a && b) ≡ false
+and_never true b e = e
+and_never false b e = refl
 
-pub and-still : (a b : Bool) → b ≡ true → (a && b) ≡ a
-and-still true b e = e
-and-still false b e = refl
+pub and_still : (a b : Bool) → b ≡ true → (a && b) ≡ a
+and_still true b e = e
+and_still false b e = refl
 
 pub neither : (a b : Bool) → (a || b) ≡ false → (a ≡ false) × (b ≡ false)
 neither true b e = never true refl e

@@ -3,11 +3,11 @@ use Rattle.std.specs.Prelude.{◌≡◌, ℕ, ◌+◌, ◌-◌, ◌^◌, Bool, t
 use Rattle.stream.specs.Bits as stream
 use Rattle.stream.specs.Refusals.{or_else}
 use Rattle.stream.specs.Bits.{bits_of, padded, field}
-use Rattle.layout.specs.Rows.{minus, inField}
+use Rattle.layout.specs.Rows.{minus, in_field}
 use Rattle.layout.specs.Windows.{window}
-use Rattle.layout.specs.Writing.{Point, point_of, state, Progress, going, timeFault, startBits, firstBits, stateAfter, opened, streamBits}
-use Rattle.layout.specs.Reading.{Outcome, got, cut, run, Kind, timeControl, timeField, valueControl, windowZeros, valueDigits, firstMarker, Label, item, Found, readNext}
-use Rattle.layout.specs.Answers.{Answer, aPoint, anEnd, refusal, answers}
+use Rattle.layout.specs.Writing.{Point, point_of, state, Progress, going, time_fault, start_bits, first_bits, state_after, opened, stream_bits}
+use Rattle.layout.specs.Reading.{Outcome, got, cut, run, Kind, time_control, time_field, value_control, window_zeros, value_digits, first_marker, Label, item, Found, read_next}
+use Rattle.layout.specs.Answers.{Answer, a_point, an_end, refusal, answers}
 
 -- what a case says of values of 64 bits
 pub data Case : Type 0 where
@@ -34,21 +34,21 @@ pub data Seen : Type 0 where
   torn : (kind : Kind) (first : ℕ) → Seen
   whole : Seen
 
-unfoldable pub firstFault : Progress → List Point → ℕ
-firstFault g [] = 0
-firstFault g (p ∷ ps) = or_else (timeFault g p.time) (firstFault (going (stateAfter 6 g p)) ps)
+unfoldable pub first_fault : Progress → List Point → ℕ
+first_fault g [] = 0
+first_fault g (p ∷ ps) = or_else (time_fault g p.time) (first_fault (going (state_after 6 g p)) ps)
 
-unfoldable pub tornItem : Outcome Label Found → Seen
-tornItem (got a q) = whole
-tornItem (cut (item kind back) p n) = torn kind (p - back)
+unfoldable pub torn_item : Outcome Label Found → Seen
+torn_item (got a q) = whole
+torn_item (cut (item kind back) p n) = torn kind (p - back)
 
 unfoldable pub seen : Case → Seen
-seen (bytes start ps e n) = sized (length (streamBits 6 start ps)) (padded (streamBits 6 start ps))
-seen (bits start ps e n) = sized (length (streamBits 6 start ps)) (field (streamBits 6 start ps) (n - 36 - length e) (length e))
-seen (ruled start ps k) = ruling (firstFault (opened 6 start) ps)
-seen (takes n d e) = taken (inField n d)
+seen (bytes start ps e n) = sized (length (stream_bits 6 start ps)) (padded (stream_bits 6 start ps))
+seen (bits start ps e n) = sized (length (stream_bits 6 start ps)) (field (stream_bits 6 start ps) (n - 36 - length e) (length e))
+seen (ruled start ps k) = ruling (first_fault (opened 6 start) ps)
+seen (takes n d e) = taken (in_field n d)
 seen (reads s e) = told (answers 6 (length e) s)
-seen (lacks g s k q) = tornItem (run (readNext 6 g) 0 s)
+seen (lacks g s k q) = torn_item (run (read_next 6 g) 0 s)
 
 unfoldable pub expected : Case → Seen
 expected (bytes start ps e n) = sized n (stream.bits e)
@@ -87,16 +87,16 @@ abbrev pub second : ℕ → List Point
 second δ = point_of 5000 0 ∷ point_of (5000 + δ) 0 ∷ []
 
 -- M2's first point, which ends at 143, and bits behind it
-abbrev pub afterFirst : List Bool → List Bool
-afterFirst more = startBits 0 ++ firstBits 6 0 (point_of 10 0) ++ more
+abbrev pub after_first : List Bool → List Bool
+after_first more = start_bits 0 ++ first_bits 6 0 (point_of 10 0) ++ more
 
 -- behind it a time of dod 0 and a window of l leading zeros and k + 1 digits
 abbrev pub windowed : ℕ → ℕ → List Bool → List Bool
-windowed l k ds = afterFirst (bits_of 3 0b011 ++ bits_of 6 l ++ bits_of 6 k ++ ds)
+windowed l k ds = after_first (bits_of 3 0b011 ++ bits_of 6 l ++ bits_of 6 k ++ ds)
 
 -- M1 to M10
-unfoldable pub markedCases : List Case
-markedCases =
+unfoldable pub marked_cases : List Case
+marked_cases =
     bytes 0 [] m1 100
     ∷ bytes 0 (point_of 10 0 ∷ []) m2 179
     ∷ bytes 0 (point_of 10 0 ∷ point_of 20 0 ∷ []) m3 181
@@ -121,22 +121,22 @@ markedCases =
     ∷ []
 
 -- window fields 1 and 63, 0 and 63, 63 and 0; M1 cut to 7, 8 and 12 bytes
-unfoldable pub otherCases : List Case
-otherCases =
-    reads (windowed 1 63 []) (aPoint 10 0 143 ∷ refusal 9 ∷ [])
-    ∷ reads (windowed 0 63 (bits_of 64 5)) (aPoint 10 0 143 ∷ aPoint 20 5 222 ∷ [])
-    ∷ reads (windowed 63 0 (bits_of 1 1)) (aPoint 10 0 143 ∷ aPoint 20 1 159 ∷ [])
+unfoldable pub other_cases : List Case
+other_cases =
+    reads (windowed 1 63 []) (a_point 10 0 143 ∷ refusal 9 ∷ [])
+    ∷ reads (windowed 0 63 (bits_of 64 5)) (a_point 10 0 143 ∷ a_point 20 5 222 ∷ [])
+    ∷ reads (windowed 63 0 (bits_of 1 1)) (a_point 10 0 143 ∷ a_point 20 1 159 ∷ [])
     ∷ reads (stream.bits (take 7 m1)) (refusal 6 ∷ refusal 6 ∷ [])
     ∷ reads (stream.bits (take 8 m1)) (refusal 7 ∷ refusal 7 ∷ [])
     ∷ reads (stream.bits (take 12 m1)) (refusal 7 ∷ refusal 7 ∷ [])
     ∷ []
 
 -- sentences of document 01, each by a case or two
-unfoldable pub ruleCases : List Case
-ruleCases =
+unfoldable pub rule_cases : List Case
+rule_cases =
     -- the window is the last one opened: M6 is read back; whatever follows the end is ignored
-    reads (streamBits 6 0 m6) (aPoint 10 0 143 ∷ aPoint 20 one 168 ∷ aPoint 30 half 181 ∷ aPoint 40 0 194 ∷ anEnd 230 ∷ anEnd 230 ∷ [])
-    ∷ reads (stream.bits m1 ++ bits_of 8 0xFF) (anEnd 100 ∷ anEnd 100 ∷ [])
+    reads (stream_bits 6 0 m6) (a_point 10 0 143 ∷ a_point 20 one 168 ∷ a_point 30 half 181 ∷ a_point 40 0 194 ∷ an_end 230 ∷ an_end 230 ∷ [])
+    ∷ reads (stream.bits m1 ++ bits_of 8 0xFF) (an_end 100 ∷ an_end 100 ∷ [])
     -- a xor of 1 has too few zeros below for the window 2 and 52; one of 2^63 too few above for the window 63 and 0
     ∷ bits 0 (m4 ++ (point_of 30 (one + 1) ∷ [])) (bits_of 3 0b011 ++ bits_of 6 63 ++ bits_of 6 0 ++ bits_of 1 1) 220
     ∷ bits 0 (point_of 10 0 ∷ point_of 20 1 ∷ point_of 30 (2 ^ 63 + 1) ∷ []) (bits_of 3 0b011 ++ bits_of 6 0 ++ bits_of 6 0 ++ bits_of 1 1) 211
@@ -159,21 +159,21 @@ ruleCases =
     ∷ takes 1 (pos 1) true
     ∷ takes 1 (pos 2) false
     -- 8 with its 36 bits, 7 with one less
-    ∷ reads (startBits 0 ++ bits_of 36 0xF00000001) (refusal 8 ∷ refusal 8 ∷ [])
-    ∷ reads (startBits 0 ++ bits_of 35 0x780000000) (refusal 7 ∷ refusal 7 ∷ [])
+    ∷ reads (start_bits 0 ++ bits_of 36 0xF00000001) (refusal 8 ∷ refusal 8 ∷ [])
+    ∷ reads (start_bits 0 ++ bits_of 35 0x780000000) (refusal 7 ∷ refusal 7 ∷ [])
     -- 10 and 11 before the value is read
-    ∷ reads (afterFirst (bits_of 2 0b10 ++ bits_of 7 117)) (aPoint 10 0 143 ∷ refusal 10 ∷ [])
-    ∷ reads (afterFirst (bits_of 2 0b10 ++ bits_of 7 118 ++ bits_of 1 0)) (aPoint 10 0 143 ∷ aPoint 10 0 153 ∷ [])
-    ∷ reads (startBits (2 ^ 64 - 1) ++ bits_of 15 1) (refusal 11 ∷ [])
-    ∷ reads (startBits (2 ^ 64 - 1) ++ bits_of 15 0 ++ bits_of 64 7) (aPoint (2 ^ 64 - 1) 7 143 ∷ [])
-    ∷ reads (startBits (2 ^ 64 - 20) ++ bits_of 15 10 ++ bits_of 64 0 ++ bits_of 1 0) (aPoint (2 ^ 64 - 10) 0 143 ∷ refusal 11 ∷ [])
+    ∷ reads (after_first (bits_of 2 0b10 ++ bits_of 7 117)) (a_point 10 0 143 ∷ refusal 10 ∷ [])
+    ∷ reads (after_first (bits_of 2 0b10 ++ bits_of 7 118 ++ bits_of 1 0)) (a_point 10 0 143 ∷ a_point 10 0 153 ∷ [])
+    ∷ reads (start_bits (2 ^ 64 - 1) ++ bits_of 15 1) (refusal 11 ∷ [])
+    ∷ reads (start_bits (2 ^ 64 - 1) ++ bits_of 15 0 ++ bits_of 64 7) (a_point (2 ^ 64 - 1) 7 143 ∷ [])
+    ∷ reads (start_bits (2 ^ 64 - 20) ++ bits_of 15 10 ++ bits_of 64 0 ++ bits_of 1 0) (a_point (2 ^ 64 - 10) 0 143 ∷ refusal 11 ∷ [])
     -- a raw 0x80000000 in the last row is 2^31, one more is -(2^31 - 1)
-    ∷ reads (afterFirst (bits_of 4 0b1111 ++ bits_of 32 0x80000000 ++ bits_of 1 0)) (aPoint 10 0 143 ∷ aPoint (20 + 2 ^ 31) 0 180 ∷ [])
-    ∷ reads (afterFirst (bits_of 4 0b1111 ++ bits_of 32 0x80000001)) (aPoint 10 0 143 ∷ refusal 10 ∷ [])
+    ∷ reads (after_first (bits_of 4 0b1111 ++ bits_of 32 0x80000000 ++ bits_of 1 0)) (a_point 10 0 143 ∷ a_point (20 + 2 ^ 31) 0 180 ∷ [])
+    ∷ reads (after_first (bits_of 4 0b1111 ++ bits_of 32 0x80000001)) (a_point 10 0 143 ∷ refusal 10 ∷ [])
     -- accepted: a dod in a longer row than needed; a zero xor as digits; reuse before any opening, of 64 digits
-    ∷ reads (afterFirst (bits_of 3 0b110 ++ bits_of 9 0 ++ bits_of 1 0)) (aPoint 10 0 143 ∷ aPoint 20 0 156 ∷ [])
-    ∷ reads (windowed 63 0 (bits_of 1 0)) (aPoint 10 0 143 ∷ aPoint 20 0 159 ∷ [])
-    ∷ reads (afterFirst (bits_of 3 0b010 ++ bits_of 64 5)) (aPoint 10 0 143 ∷ aPoint 20 5 210 ∷ [])
+    ∷ reads (after_first (bits_of 3 0b110 ++ bits_of 9 0 ++ bits_of 1 0)) (a_point 10 0 143 ∷ a_point 20 0 156 ∷ [])
+    ∷ reads (windowed 63 0 (bits_of 1 0)) (a_point 10 0 143 ∷ a_point 20 0 159 ∷ [])
+    ∷ reads (after_first (bits_of 3 0b010 ++ bits_of 64 5)) (a_point 10 0 143 ∷ a_point 20 5 210 ∷ [])
     ∷ []
 
 -- after a point at 10, with the window 2 and 52 of M4
@@ -181,33 +181,33 @@ abbrev pub midway : Progress
 midway = going (state 10 10 0 (window 2 52))
 
 -- which item of a point is torn, and the first bit of that item
-unfoldable pub itemCases : List Case
-itemCases =
+unfoldable pub item_cases : List Case
+item_cases =
     -- the first point: its control bit, its delta, its value; the marker in its place
-    lacks (opened 6 0) [] timeControl 0
-    ∷ lacks (opened 6 0) (bits_of 14 0) timeField 1
-    ∷ lacks (opened 6 0) (bits_of 15 10 ++ bits_of 63 0) valueDigits 15
-    ∷ lacks (opened 6 0) (bits_of 35 0x780000000) firstMarker 0
+    lacks (opened 6 0) [] time_control 0
+    ∷ lacks (opened 6 0) (bits_of 14 0) time_field 1
+    ∷ lacks (opened 6 0) (bits_of 15 10 ++ bits_of 63 0) value_digits 15
+    ∷ lacks (opened 6 0) (bits_of 35 0x780000000) first_marker 0
     -- a later time: each control bit, each row's field, a marker torn in its zeros
-    ∷ lacks midway [] timeControl 0
-    ∷ lacks midway (bits_of 1 0b1) timeControl 0
-    ∷ lacks midway (bits_of 2 0b11) timeControl 0
-    ∷ lacks midway (bits_of 3 0b111) timeControl 0
-    ∷ lacks midway (bits_of 2 0b10 ++ bits_of 6 0) timeField 2
-    ∷ lacks midway (bits_of 3 0b110 ++ bits_of 8 0) timeField 3
-    ∷ lacks midway (bits_of 4 0b1110 ++ bits_of 11 0) timeField 4
-    ∷ lacks midway (bits_of 4 0b1111 ++ bits_of 31 0) timeField 4
+    ∷ lacks midway [] time_control 0
+    ∷ lacks midway (bits_of 1 0b1) time_control 0
+    ∷ lacks midway (bits_of 2 0b11) time_control 0
+    ∷ lacks midway (bits_of 3 0b111) time_control 0
+    ∷ lacks midway (bits_of 2 0b10 ++ bits_of 6 0) time_field 2
+    ∷ lacks midway (bits_of 3 0b110 ++ bits_of 8 0) time_field 3
+    ∷ lacks midway (bits_of 4 0b1110 ++ bits_of 11 0) time_field 4
+    ∷ lacks midway (bits_of 4 0b1111 ++ bits_of 31 0) time_field 4
     -- a later value: each control bit, both fields of a window, its digits; the digits of a window that is reused
-    ∷ lacks midway (bits_of 1 0) valueControl 1
-    ∷ lacks midway (bits_of 2 0b01) valueControl 1
-    ∷ lacks midway (bits_of 3 0b011 ++ bits_of 5 0) windowZeros 3
-    ∷ lacks midway (bits_of 3 0b011 ++ bits_of 11 0) windowZeros 3
-    ∷ lacks midway (bits_of 3 0b011 ++ bits_of 12 1 ++ bits_of 1 0) valueDigits 15
-    ∷ lacks midway (bits_of 3 0b010 ++ bits_of 9 0) valueDigits 3
+    ∷ lacks midway (bits_of 1 0) value_control 1
+    ∷ lacks midway (bits_of 2 0b01) value_control 1
+    ∷ lacks midway (bits_of 3 0b011 ++ bits_of 5 0) window_zeros 3
+    ∷ lacks midway (bits_of 3 0b011 ++ bits_of 11 0) window_zeros 3
+    ∷ lacks midway (bits_of 3 0b011 ++ bits_of 12 1 ++ bits_of 1 0) value_digits 15
+    ∷ lacks midway (bits_of 3 0b010 ++ bits_of 9 0) value_digits 3
     ∷ []
 
 abbrev pub cases : List Case
-cases = markedCases ++ otherCases ++ ruleCases ++ itemCases
+cases = marked_cases ++ other_cases ++ rule_cases ++ item_cases
 
 -- `marked`
 abbrev pub Marked : Type 0

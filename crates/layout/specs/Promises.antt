@@ -3,12 +3,12 @@
 use Rattle.std.specs.Prelude.{◌≡◌, ℕ, zero, suc, ◌+◌, ◌-◌, ◌*◌, ◌/◌, ◌^◌, ◌≤◌, ◌<◌, Bool, true, false, cond, List, [], ◌∷◌, ◌++◌, ltb, ℤ, length, take, replicate, get_or}
 use Rattle.std.specs.Int.Bits.{bit_xor}
 use Rattle.std.specs.Int.Count.{count_leading_zeros, count_trailing_zeros}
-use Rattle.stream.specs.Bits.{bits, bytesFor, padded}
+use Rattle.stream.specs.Bits.{bits, bytes_for, padded}
 use Rattle.layout.specs.declared.Row.{Row}
-use Rattle.layout.specs.Rows.{rows, fits, inField, raw, signed}
-use Rattle.layout.specs.Windows.{Window, digits, reuses, badWindow}
-use Rattle.layout.specs.Writing.{Point, point_of, Progress, going, pointBits, stateAfter, opened, streamBits, Accepted}
-use Rattle.layout.specs.Answers.{Reached, position, Answer, aPoint, anEnd, refusal, answer_of, outcomes, answers, lack, tornBy, torn}
+use Rattle.layout.specs.Rows.{rows, fits, in_field, raw, signed}
+use Rattle.layout.specs.Windows.{Window, digits, reuses, bad_window}
+use Rattle.layout.specs.Writing.{Point, point_of, Progress, going, point_bits, state_after, opened, stream_bits, Accepted}
+use Rattle.layout.specs.Answers.{Reached, position, Answer, a_point, an_end, refusal, answer_of, outcomes, answers, lack, torn_by, torn}
 
 -- ---- `field_back`: a dod's field, once over its width
 
@@ -17,7 +17,7 @@ pub record FieldBack (n : ℕ) (d : ℤ) : Type 0 where
   pub back : signed n (raw n d) ≡ d
 
 abbrev pub FieldsBack : Type 0
-FieldsBack = (n : ℕ) (d : ℤ) → 1 ≤ n → inField n d ≡ true → FieldBack n d
+FieldsBack = (n : ℕ) (d : ℤ) → 1 ≤ n → in_field n d ≡ true → FieldBack n d
 
 -- a rule that holds of each entry of a list
 abbrev pub Every : {A : Type 0} → (A → Type 0) → List A → Type 0
@@ -31,12 +31,12 @@ RowsBack = Every (λ (r : Row). (d : ℤ) → fits r d ≡ true → FieldBack r.
 -- ---- points and ends, cut to the first j bits: those whose position lies in them, then 6 or 7 for ever
 
 unfoldable pub place_of : Answer → ℕ
-place_of (aPoint t v q) = q
-place_of (anEnd q) = q
+place_of (a_point t v q) = q
+place_of (an_end q) = q
 place_of (refusal k) = 0
 
 abbrev pub cut_to : ℕ → List Answer → List Answer
-cut_to j l = tornBy place_of (λ a. a) j l
+cut_to j l = torn_by place_of (λ a. a) j l
 
 module _ (c : ℕ) where
   -- ---- `windows`: the laws of windows, over the width
@@ -51,38 +51,38 @@ module _ (c : ℕ) where
     -- a number that is not 0 has a digit between its zeros
     pub zeros : (x : ℕ) → 0 < x → x < 2 ^ (2 ^ c) → count_leading_zeros (2 ^ c) x + count_trailing_zeros (2 ^ c) x < 2 ^ c
 
-  -- `bad-windows`: which windows a state can't have: their zeros sum above 63, and they are not the 64 and 64 of the beginning
+  -- `bad_windows`: which windows a state can't have: their zeros sum above 63, and they are not the 64 and 64 of the beginning
   pub record BadWindow (w : Window) : Type 0 where
-    pub digit : w.lead + w.trail < 2 ^ c → badWindow c w ≡ false
-    pub begins : w.lead ≡ 2 ^ c → w.trail ≡ 2 ^ c → badWindow c w ≡ false
-    pub other : 2 ^ c ≤ w.lead + w.trail → (w.lead ≡ 2 ^ c → w.trail ≡ 2 ^ c → ⊥) → badWindow c w ≡ true
+    pub digit : w.lead + w.trail < 2 ^ c → bad_window c w ≡ false
+    pub begins : w.lead ≡ 2 ^ c → w.trail ≡ 2 ^ c → bad_window c w ≡ false
+    pub other : 2 ^ c ≤ w.lead + w.trail → (w.lead ≡ 2 ^ c → w.trail ≡ 2 ^ c → ⊥) → bad_window c w ≡ true
 
-  -- ---- `points-come-back`
+  -- ---- `points_come_back`
 
   -- n answers from the position `at` on: the points with their positions, then the end for ever
   unfoldable pub back : ℕ → ℕ → Progress → List Point → List Answer
   back zero at g ps = []
-  back (suc n) at g [] = replicate (suc n) (anEnd (at + 36))
+  back (suc n) at g [] = replicate (suc n) (an_end (at + 36))
   back (suc n) at g (p ∷ ps) =
-      aPoint p.time p.value (at + length (pointBits c g p)) ∷ back n (at + length (pointBits c g p)) (going (stateAfter c g p)) ps
+      a_point p.time p.value (at + length (point_bits c g p)) ∷ back n (at + length (point_bits c g p)) (going (state_after c g p)) ps
 
   -- the answers on a closed stream's bits, whatever follows them
   abbrev pub PointsComeBack : Type 0
   PointsComeBack = (n start : ℕ) (ps : List Point) (junk : List Bool) → start < 2 ^ 64 → Accepted c (opened c start) ps
-      → answers c n (streamBits c start ps ++ junk) ≡ back n 64 (opened c start) ps
+      → answers c n (stream_bits c start ps ++ junk) ≡ back n 64 (opened c start) ps
 
-  -- ---- `more-data`
+  -- ---- `more_data`
 
   -- f's answers on the first j bits are told by the outcomes on the whole
   abbrev pub KeepsPrefix : (ℕ → List Bool → List Answer) → Type 0
   KeepsPrefix f = (n j : ℕ) (s : List Bool) → f n (take j s) ≡ torn j (outcomes c n s)
 
   pub record MoreData : Type 0 where
-    pub bits-form : KeepsPrefix (answers c)
+    pub bits_form : KeepsPrefix (answers c)
     -- the first k bytes of any buffer, so of one within the limit
-    pub bytes-form : (n k : ℕ) (l : List ℕ) → answers c n (bits (take k l)) ≡ torn (8 * k) (outcomes c n (bits l))
+    pub bytes_form : (n k : ℕ) (l : List ℕ) → answers c n (bits (take k l)) ≡ torn (8 * k) (outcomes c n (bits l))
     -- where no outcome used a bit at or behind j, whoever keeps it answers as on the whole: no 7 for a 9 whose bits are there
-    pub none-torn : (f : ℕ → List Bool → List Answer) → KeepsPrefix f → (n j : ℕ) (s : List Bool)
+    pub none_torn : (f : ℕ → List Bool → List Answer) → KeepsPrefix f → (n j : ℕ) (s : List Bool)
         → Every (λ (o : Reached). position o ≤ j) (outcomes c n s) → f n (take j s) ≡ answers c n s
     -- it leaves no choice: whoever keeps it is this decoder
     pub determines : (f : ℕ → List Bool → List Answer) → KeepsPrefix f → (n : ℕ) (s : List Bool) → f n s ≡ answers c n s
@@ -100,20 +100,20 @@ module _ (c : ℕ) where
   abbrev pub Precisely : Type 0
   Precisely = (n j : ℕ) (s : List Bool) (o : Reached) (a : Answer) (i : ℕ) → i < n → Precise n j s o a i
 
-  -- ---- `closed-cut`
+  -- ---- `closed_cut`
 
   -- a closed stream, in bits and as the bytes l that hold it
   pub record ClosedCut (start : ℕ) (ps : List Point) : Type 0 where
     -- its first j bits give the points that lie in them
-    pub given : (n j : ℕ) → answers c n (take j (streamBits c start ps)) ≡ cut_to j (back n 64 (opened c start) ps)
+    pub given : (n j : ℕ) → answers c n (take j (stream_bits c start ps)) ≡ cut_to j (back n 64 (opened c start) ps)
     -- short of its full length, 6 or 7 stands at the latest where the end would
-    pub ends : (n j : ℕ) → j < length (streamBits c start ps) → length ps < n
-        → get_or (answers c n (take j (streamBits c start ps))) (length ps) (anEnd 0) ≡ refusal (lack j)
+    pub ends : (n j : ℕ) → j < length (stream_bits c start ps) → length ps < n
+        → get_or (answers c n (take j (stream_bits c start ps))) (length ps) (an_end 0) ≡ refusal (lack j)
     -- the same in bytes: 6 below 8 of them, else 7
-    pub bytes-given : (n k : ℕ) (l : List ℕ) → bits l ≡ padded (streamBits c start ps) → k < length l
+    pub bytes_given : (n k : ℕ) (l : List ℕ) → bits l ≡ padded (stream_bits c start ps) → k < length l
         → answers c n (bits (take k l)) ≡ cut_to (8 * k) (back n 64 (opened c start) ps)
-    pub bytes-end : (n k : ℕ) (l : List ℕ) → bits l ≡ padded (streamBits c start ps) → k < length l → length ps < n
-        → get_or (answers c n (bits (take k l))) (length ps) (anEnd 0) ≡ refusal (cond (ltb k 8) 6 7)
+    pub bytes_end : (n k : ℕ) (l : List ℕ) → bits l ≡ padded (stream_bits c start ps) → k < length l → length ps < n
+        → get_or (answers c n (bits (take k l))) (length ps) (an_end 0) ≡ refusal (cond (ltb k 8) 6 7)
 
   abbrev pub ClosedCuts : Type 0
   ClosedCuts = (start : ℕ) (ps : List Point) → start < 2 ^ 64 → Accepted c (opened c start) ps → ClosedCut start ps
@@ -121,10 +121,10 @@ module _ (c : ℕ) where
 -- ---- `sizes`, of values of 64 bits
 
 pub record Sizes : Type 0 where
-  pub empty : (start : ℕ) → length (streamBits 6 start []) ≡ 100
-  pub empty-bytes : (start : ℕ) → bytesFor (length (streamBits 6 start [])) ≡ 13
-  pub least : (start : ℕ) (ps : List Point) → Accepted 6 (opened 6 start) ps → 1 ≤ length ps → 179 + 2 * (length ps - 1) ≤ length (streamBits 6 start ps)
-  pub most : (start : ℕ) (ps : List Point) → Accepted 6 (opened 6 start) ps → 1 ≤ length ps → length (streamBits 6 start ps) ≤ 179 + 114 * (length ps - 1)
+  pub empty : (start : ℕ) → length (stream_bits 6 start []) ≡ 100
+  pub empty_bytes : (start : ℕ) → bytes_for (length (stream_bits 6 start [])) ≡ 13
+  pub least : (start : ℕ) (ps : List Point) → Accepted 6 (opened 6 start) ps → 1 ≤ length ps → 179 + 2 * (length ps - 1) ≤ length (stream_bits 6 start ps)
+  pub most : (start : ℕ) (ps : List Point) → Accepted 6 (opened 6 start) ps → 1 ≤ length ps → length (stream_bits 6 start ps) ≤ 179 + 114 * (length ps - 1)
   -- both ends are reached, the upper one by a second point
-  pub least-met : length (streamBits 6 0 (point_of 0 0 ∷ point_of 0 0 ∷ [])) ≡ 179 + 2 * 1
-  pub most-met : length (streamBits 6 0 (point_of 0 0 ∷ point_of (2 ^ 31) (2 ^ 63 + 1) ∷ [])) ≡ 179 + 114 * 1
+  pub least_met : length (stream_bits 6 0 (point_of 0 0 ∷ point_of 0 0 ∷ [])) ≡ 179 + 2 * 1
+  pub most_met : length (stream_bits 6 0 (point_of 0 0 ∷ point_of (2 ^ 31) (2 ^ 63 + 1) ∷ [])) ≡ 179 + 114 * 1

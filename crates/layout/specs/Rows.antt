@@ -29,11 +29,11 @@ row12 = row 0b1110 4 12 (minus 2047) (pos 2048)
 abbrev pub row32 : Row
 row32 = row 0b1111 4 32 (minus 2147483647) (pos 2147483648)
 
-abbrev pub longerRows : List Row
-longerRows = row9 ∷ row12 ∷ row32 ∷ []
+abbrev pub longer_rows : List Row
+longer_rows = row9 ∷ row12 ∷ row32 ∷ []
 
 abbrev pub rows : List Row
-rows = row7 ∷ longerRows
+rows = row7 ∷ longer_rows
 
 -- row i, counted from 0; past the end the last
 unfoldable pub row_at : ℕ → Row
@@ -45,8 +45,8 @@ fits r d = within r.lowest r.highest d
 -- ---- the field, over its width n
 
 -- the dods that it takes: -(2^(n - 1) - 1) to 2^(n - 1)
-abbrev pub inField : ℕ → ℤ → Bool
-inField n d = within (minus (2 ^ (n - 1) - 1)) (pos (2 ^ (n - 1))) d
+abbrev pub in_field : ℕ → ℤ → Bool
+in_field n d = within (minus (2 ^ (n - 1) - 1)) (pos (2 ^ (n - 1))) d
 
 -- the number in it: negsuc a is -(a + 1)
 unfoldable pub raw : ℕ → ℤ → ℕ

@@ -13,28 +13,28 @@ abbrev pub window : ℕ → ℕ → Window
 window l t = record { lead = l; trail = t }
 
 -- the decoder begins with 0 and 0: reuse before any opening reads all digits
-abbrev pub decoderWindow : Window
-decoderWindow = window 0 0
+abbrev pub decoder_window : Window
+decoder_window = window 0 0
 
 module _ (c : ℕ) where
   -- the encoder begins with 64 and 64, so its first nonzero xor opens one
-  abbrev pub encoderWindow : Window
-  encoderWindow = window (2 ^ c) (2 ^ c)
+  abbrev pub encoder_window : Window
+  encoder_window = window (2 ^ c) (2 ^ c)
 
   abbrev pub digits : Window → ℕ
   digits w = 2 ^ c - w.lead - w.trail
 
   -- zeros that leave no digit: they sum above 63
-  unfoldable pub noDigit : Window → Bool
-  noDigit w = ltb (2 ^ c - 1) (w.lead + w.trail)
+  unfoldable pub no_digit : Window → Bool
+  no_digit w = ltb (2 ^ c - 1) (w.lead + w.trail)
 
   -- the window that the encoder begins with
   unfoldable pub unopened : Window → Bool
   unopened w = eqb w.lead (2 ^ c) && eqb w.trail (2 ^ c)
 
   -- a window that no state can have: without a digit, and not that one
-  unfoldable pub badWindow : Window → Bool
-  badWindow w = noDigit w && not (unopened w)
+  unfoldable pub bad_window : Window → Bool
+  bad_window w = no_digit w && not (unopened w)
 
   -- are the xor's zeros each at least those of the window?
   unfoldable pub reuses : Window → ℕ → Bool
@@ -45,23 +45,23 @@ module _ (c : ℕ) where
   tight x = window (count_leading_zeros (2 ^ c) x) (count_trailing_zeros (2 ^ c) x)
 
   -- the window's digits of a xor
-  abbrev pub digitBits : Window → ℕ → List Bool
-  digitBits w x = bits_of (digits w) (x / 2 ^ w.trail)
+  abbrev pub digit_bits : Window → ℕ → List Bool
+  digit_bits w x = bits_of (digits w) (x / 2 ^ w.trail)
 
   -- bits 10 and the window's digits
-  unfoldable pub reuseBits : Window → ℕ → List Bool
-  reuseBits w x = true ∷ false ∷ digitBits w x
+  unfoldable pub reuse_bits : Window → ℕ → List Bool
+  reuse_bits w x = true ∷ false ∷ digit_bits w x
 
   -- bits 11, the leading zeros, the number of digits less one, the digits
-  unfoldable pub openBits : Window → ℕ → List Bool
-  openBits w x = true ∷ true ∷ bits_of c w.lead ++ (bits_of c (digits w - 1) ++ digitBits w x)
+  unfoldable pub open_bits : Window → ℕ → List Bool
+  open_bits w x = true ∷ true ∷ bits_of c w.lead ++ (bits_of c (digits w - 1) ++ digit_bits w x)
 
   -- a xor after a window: bit 0 for zero; else reuse, or open
-  unfoldable pub xorBits : Window → ℕ → List Bool
-  xorBits w zero = false ∷ []
-  xorBits w (suc y) = cond (reuses w (suc y)) (reuseBits w (suc y)) (openBits (tight (suc y)) (suc y))
+  unfoldable pub xor_bits : Window → ℕ → List Bool
+  xor_bits w zero = false ∷ []
+  xor_bits w (suc y) = cond (reuses w (suc y)) (reuse_bits w (suc y)) (open_bits (tight (suc y)) (suc y))
 
   -- the window is the last one opened
-  unfoldable pub windowAfter : Window → ℕ → Window
-  windowAfter w zero = w
-  windowAfter w (suc y) = cond (reuses w (suc y)) w (tight (suc y))
+  unfoldable pub window_after : Window → ℕ → Window
+  window_after w zero = w
+  window_after w (suc y) = cond (reuses w (suc y)) w (tight (suc y))

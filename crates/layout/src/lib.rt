@@ -2,7 +2,7 @@
 
 ghost use Rattle.std.specs.Prelude.{◌≡◌};
 ghost use Rattle.layout.specs.Rows as format;
-ghost use Rattle.layout.specs.Windows.{window, noDigit, badWindow};
+ghost use Rattle.layout.specs.Windows.{window, no_digit, bad_window};
 
 // A row: its control bits, the bits of its field, and the dods that it takes.
 #[derive(Drop)]
@@ -57,14 +57,14 @@ pub fn row_at(i: usize) -> Row
 
 // Whether so many zeros above the digits and so many below them leave none of 64.
 pub fn no_digit(lead: u32, trail: u32) -> bool
-    ensures { result ≡ noDigit 6 (window lead trail) }
+    ensures { result ≡ no_digit 6 (window lead trail) }
 {
     63 < (lead as u64) + (trail as u64)
 }
 
 // Whether they are zeros that no encoder has: such ones, but for the 64 and 64 with which it begins.
 pub fn bad_window(lead: u32, trail: u32) -> bool
-    ensures { result ≡ badWindow 6 (window lead trail) }
+    ensures { result ≡ bad_window 6 (window lead trail) }
 {
     if lead == 64 {
         return trail != 64;

@@ -4,8 +4,8 @@ use mathlib.Core.List.{[], ◌∷◌}
 use Prim.Native.Nat.{ℕ}
 use base.Fml.{GName}
 use Rattle.stream.specs.Bits.{odd, bits_of, digit, value_of, bits, field}
-use Rattle.stream.specs.Refusals.{when, or_else, byFault}
-use Rattle.stream.specs.Calls.{given, refused, fieldFault, read_of}
+use Rattle.stream.specs.Refusals.{when, or_else, by_fault}
+use Rattle.stream.specs.Calls.{given, refused, field_fault, read_of}
 use Rattle.lent.specs.declared.held_reader.HeldReader.{HeldReader}
 use Rattle.lent.specs.Calls.{Reading, held_of}
 
@@ -15,14 +15,14 @@ module _ (place : ℕ × ℕ) (name : GName) where
   held at = record { bytes = record { ref_ptr = place; ghost_name = name; now = 165 ∷ [] }; at = record { 0 = at } }
 
   -- its last four bits, and past them
-  moves-at : ◌≡◌ {A = Reading} (held_of (held 4) 4) (given (5 ∷ []), 8, (held 4).bytes)
-  unfolding read_of byFault fieldFault when or_else value_of digit bits bits_of odd field
-  moves-at = refl
+  moves_at : ◌≡◌ {A = Reading} (held_of (held 4) 4) (given (5 ∷ []), 8, (held 4).bytes)
+  unfolding read_of by_fault field_fault when or_else value_of digit bits bits_of odd field
+  moves_at = refl
 
   stays_at : ◌≡◌ {A = Reading} (held_of (held 4) 5) (refused 7, 4, (held 4).bytes)
-  unfolding read_of byFault fieldFault when or_else
+  unfolding read_of by_fault field_fault when or_else
   stays_at = refl
 
-  beyond-at : ◌≡◌ {A = Reading} (held_of (held 9) 1) (refused 13, 9, (held 9).bytes)
-  unfolding read_of byFault fieldFault when or_else
-  beyond-at = refl
+  beyond_at : ◌≡◌ {A = Reading} (held_of (held 9) 1) (refused 13, 9, (held 9).bytes)
+  unfolding read_of by_fault field_fault when or_else
+  beyond_at = refl

@@ -71,8 +71,8 @@ module _ {M : Type 1} {𝓤 : Ura M} (𝓛 : Logic 𝓤) (ν : ℕ) (κ : Lft) (
       move ! (3 ∷ 0 ∷ []) $ use2 𝓛 (‵ (flft (ν ∷ κ) (PosShare.left q))) (𝓛.lfts.lft_meet (ν ∷ []) κ (PosShare.left q)) $ move ! (1 ∷ 2 ∷ []) $ join ! $ move ! (1 ∷ 0 ∷ []) $ join ! $ done !
 
   -- and back: κ's token is whole, ν is ended, and so is the meet
-  pub meet-ends : ent 𝓤 (sep 𝓤 (sep 𝓤 (A.lft (ν ∷ κ) (PosShare.left q)) (sep 𝓤 (A.lft κ (PosShare.right q)) (sem 𝓛 ftrue))) Whole) (H.⇛ (sep 𝓤 (A.dead (ν ∷ κ)) (sep 𝓤 (A.lft κ q) (sem 𝓛 ftrue))))
-  meet-ends =
+  pub meet_ends : ent 𝓤 (sep 𝓤 (sep 𝓤 (A.lft (ν ∷ κ) (PosShare.left q)) (sep 𝓤 (A.lft κ (PosShare.right q)) (sem 𝓛 ftrue))) Whole) (H.⇛ (sep 𝓤 (A.dead (ν ∷ κ)) (sep 𝓤 (A.lft κ q) (sem 𝓛 ftrue))))
+  meet_ends =
       qed 𝓛 ((‵ (flft (ν ∷ κ) (PosShare.left q)) ⊛ ‵ (flft κ (PosShare.right q)) ⊛ ‵ ftrue) ∷ raw Whole ∷ []) ∵ updating ! $ split ! $
       use1 𝓛 (‵ (flft (ν ∷ []) (PosShare.left q)) ⊛ ‵ (flft κ (PosShare.left q))) (𝓛.lfts.lft_unmeet (ν ∷ []) κ (PosShare.left q)) $ split ! $
       move ! (0 ∷ 3 ∷ []) $ use2 𝓛 (‵ (flft (ν ∷ []) full_share)) (apply∗ 𝓤 (A.lft (ν ∷ []) (PosShare.left q)) (A.lft (ν ∷ []) full_share)) $ lft_end ! tt $

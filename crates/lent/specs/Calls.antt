@@ -2,7 +2,7 @@
 use Rattle.std.specs.Prelude.{ℕ, List}
 use Rattle.std.specs.Borrow.{Bor}
 use Rattle.stream.specs.declared.buffered_read.BitsAnswer.{BitsAnswer}
-use Rattle.stream.specs.Calls.{Told, tellBits, read_of}
+use Rattle.stream.specs.Calls.{Told, tell_bits, read_of}
 use Rattle.encode.specs.declared.std_encoder.StdEncoder.{StdEncoder}
 use Rattle.encode.specs.declared.std_encoder.EncodeAnswer.{EncodeAnswer}
 use Rattle.encode.specs.declared.std_encoder.CloseAnswer.{CloseAnswer}
@@ -20,20 +20,20 @@ use Rattle.lent.specs.declared.held_reader.TwoReads.{TwoReads}
 abbrev pub Reading : Type 0
 Reading = Told × ℕ × Bor (List ℕ)
 
-abbrev pub toldHeld : BitsAnswer → HeldReader → Reading
-toldHeld a r = (tellBits a, r.at.0, r.bytes)
+abbrev pub told_held : BitsAnswer → HeldReader → Reading
+told_held a r = (tell_bits a, r.at.0, r.bytes)
 
 -- a read of num bits: the bit reader's on the bytes held, from the place held; the bytes stay
 abbrev pub held_of : HeldReader → ℕ → Reading
 held_of r num = ((read_of r.bytes.now r.at.0 num).0, (read_of r.bytes.now r.at.0 num).1, r.bytes)
 
 -- two reads: what each answered, and the place after both
-abbrev pub toldTwo : TwoReads → Told × (Told × ℕ)
-toldTwo r = (tellBits r.first, (tellBits r.second, r.at.0))
+abbrev pub told_two : TwoReads → Told × (Told × ℕ)
+told_two r = (tell_bits r.first, (tell_bits r.second, r.at.0))
 
 -- the second from where the first left the reader
-abbrev pub twoOf : List ℕ → ℕ → ℕ → ℕ → Told × (Told × ℕ)
-twoOf l p first second = ((read_of l p first).0, read_of l (read_of l p first).1 second)
+abbrev pub two_of : List ℕ → ℕ → ℕ → ℕ → Told × (Told × ℕ)
+two_of l p first second = ((read_of l p first).0, read_of l (read_of l p first).1 second)
 
 -- ---- a state changed in place: the answer, and the state behind the reference after it, as the call by value returns them
 

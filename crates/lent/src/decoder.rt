@@ -3,7 +3,7 @@
 ghost use Rattle.std.specs.Prelude.{◌≡◌, length};
 ghost use Rattle.stream.specs.Bits.{bits};
 ghost use Rattle.decode.specs.States.{view};
-ghost use Rattle.decode.specs.Calls.{toldNext, next_of};
+ghost use Rattle.decode.specs.Calls.{told_next, next_of};
 ghost use Rattle.lent.specs.Calls.{answered};
 
 use decode::StdDecoder;
@@ -11,7 +11,7 @@ use decode::std_decoder::{Next, Step};
 
 // The next answer: a point, the end or a refusal.
 pub fn next(decoder: &mut StdDecoder, buf: &[u8]) -> Step
-    ensures { toldNext (answered result decoder.new) ≡ next_of 6 (view decoder.old) (length buf.now) (bits buf.now) }
+    ensures { told_next (answered result decoder.new) ≡ next_of 6 (view decoder.old) (length buf.now) (bits buf.now) }
 {
     let n = StdDecoder::next(*decoder, buf);
     *decoder = n.decoder;
@@ -22,7 +22,7 @@ pub fn next(decoder: &mut StdDecoder, buf: &[u8]) -> Step
 
 // Lends the decoder to `next`, and hands it back with the answer.
 pub fn next_lent(decoder: StdDecoder, buf: &[u8]) -> Next
-    ensures { toldNext result ≡ next_of 6 (view decoder) (length buf.now) (bits buf.now) }
+    ensures { told_next result ≡ next_of 6 (view decoder) (length buf.now) (bits buf.now) }
 {
     let mut state = decoder;
     let answer = next(&mut state, buf);

@@ -4,7 +4,7 @@
 ghost use Rattle.std.specs.Prelude.{◌≡◌, length};
 ghost use Rattle.stream.specs.Bits.{bits};
 ghost use Rattle.encode.specs.States.{view, point_of};
-ghost use Rattle.encode.specs.Calls.{toldEncoded, toldClosing, encodeOf, closeOf};
+ghost use Rattle.encode.specs.Calls.{told_encoded, told_closing, encode_of, close_of};
 ghost use Rattle.lent.specs.Calls.{offered, shutting};
 
 use encode::StdEncoder;
@@ -13,7 +13,7 @@ use point::Stored;
 
 // Offers a point: 12, 13, then 2, then 3 or 4, then 1.
 pub fn encode(encoder: &mut StdEncoder, buf: &mut [u8], point: Stored) -> EncodeAnswer
-    ensures { toldEncoded (offered result encoder.new) buf.new ≡ encodeOf 6 (view encoder.old) (length buf.old) (bits buf.old) (point_of point) }
+    ensures { told_encoded (offered result encoder.new) buf.new ≡ encode_of 6 (view encoder.old) (length buf.old) (bits buf.old) (point_of point) }
 {
     let e = StdEncoder::encode(*encoder, buf, point);
     *encoder = e.encoder;
@@ -22,7 +22,7 @@ pub fn encode(encoder: &mut StdEncoder, buf: &mut [u8], point: Stored) -> Encode
 
 // Closes the stream with the marker, for which room was kept: 12, then 13.
 pub fn close(encoder: &mut StdEncoder, buf: &mut [u8]) -> CloseAnswer
-    ensures { toldClosing (shutting result encoder.new) buf.new ≡ closeOf 6 (view encoder.old) (length buf.old) (bits buf.old) }
+    ensures { told_closing (shutting result encoder.new) buf.new ≡ close_of 6 (view encoder.old) (length buf.old) (bits buf.old) }
 {
     let c = StdEncoder::close(*encoder, buf);
     *encoder = c.encoder;
@@ -33,7 +33,7 @@ pub fn close(encoder: &mut StdEncoder, buf: &mut [u8]) -> CloseAnswer
 
 // Lends the encoder to `encode`, and hands it back with the answer.
 pub fn encode_lent(encoder: StdEncoder, buf: &mut [u8], point: Stored) -> Encoded
-    ensures { toldEncoded result buf.new ≡ encodeOf 6 (view encoder) (length buf.old) (bits buf.old) (point_of point) }
+    ensures { told_encoded result buf.new ≡ encode_of 6 (view encoder) (length buf.old) (bits buf.old) (point_of point) }
 {
     let mut state = encoder;
     let answer = encode(&mut state, buf, point);
@@ -45,7 +45,7 @@ pub fn encode_lent(encoder: StdEncoder, buf: &mut [u8], point: Stored) -> Encode
 
 // Lends the encoder to `close`, and hands it back with the answer.
 pub fn close_lent(encoder: StdEncoder, buf: &mut [u8]) -> Closing
-    ensures { toldClosing result buf.new ≡ closeOf 6 (view encoder) (length buf.old) (bits buf.old) }
+    ensures { told_closing result buf.new ≡ close_of 6 (view encoder) (length buf.old) (bits buf.old) }
 {
     let mut state = encoder;
     let answer = close(&mut state, buf);

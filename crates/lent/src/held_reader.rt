@@ -1,9 +1,9 @@
 // A reader that holds its bytes, as the Rust's `BufferedReader` does; here they are lent. The reading is done by the one bit reader.
 
 ghost use Rattle.std.specs.Prelude.{◌≡◌};
-ghost use Rattle.stream.specs.Calls.{tellBits, read_of, peekOf};
-ghost use Rattle.lent.specs.Calls.{toldHeld, held_of, toldTwo, twoOf};
-ghost use Rattle.lent.specs.Parts.{toldPlaced};
+ghost use Rattle.stream.specs.Calls.{tell_bits, read_of, peek_of};
+ghost use Rattle.lent.specs.Calls.{told_held, held_of, told_two, two_of};
+ghost use Rattle.lent.specs.Parts.{told_placed};
 
 use stream::buffered_read::BitsAnswer;
 use stream::{BitPos, BufferedReader};
@@ -34,7 +34,7 @@ struct Placed {
 
 // Reads num bits at a place.
 fn bits_at(bytes: &[u8], at: BitPos, num: u32) -> Placed
-    ensures { toldPlaced result ≡ read_of bytes.now at.0 num }
+    ensures { told_placed result ≡ read_of bytes.now at.0 num }
 {
     let f = BufferedReader::at(at).read_bits(bytes, num);
     let answer = f.answer;
@@ -44,7 +44,7 @@ fn bits_at(bytes: &[u8], at: BitPos, num: u32) -> Placed
 
 // A peek at a place: what `bits_at` would answer.
 fn peak_at(bytes: &[u8], at: BitPos, num: u32) -> BitsAnswer
-    ensures { tellBits result ≡ (peekOf bytes.now at.0 num).0 }
+    ensures { tell_bits result ≡ (peek_of bytes.now at.0 num).0 }
 {
     let f = BufferedReader::at(at).peak_bits(bytes, num);
     let answer = f.answer;
@@ -78,7 +78,7 @@ impl<'a> HeldReader<'a> {
 
     // Reads num bits as a number, the highest first, and moves behind them; more than 64 are 64. A refused read does not move.
     pub fn read_bits(&mut self, num: u32) -> BitsAnswer
-        ensures { toldHeld result self.new ≡ held_of self.old num }
+        ensures { told_held result self.new ≡ held_of self.old num }
     {
         let f = bits_at(self.bytes, self.at, num);
         self.at = f.at;
@@ -87,7 +87,7 @@ impl<'a> HeldReader<'a> {
 
     // What read_bits would answer. The reader is not lent, so it stays where it is.
     pub fn peak_bits(self, num: u32) -> BitsAnswer
-        ensures { tellBits result ≡ (peekOf self.entry.bytes.now self.entry.at.0 num).0 }
+        ensures { tell_bits result ≡ (peek_of self.entry.bytes.now self.entry.at.0 num).0 }
     {
         peak_at(self.bytes, self.at, num)
     }
@@ -97,14 +97,14 @@ impl<'a> HeldReader<'a> {
 
 // What the first num bits are, by a reader made of the bytes.
 pub fn first_bits(bytes: &[u8], num: u32) -> BitsAnswer
-    ensures { tellBits result ≡ (peekOf bytes.now 0 num).0 }
+    ensures { tell_bits result ≡ (peek_of bytes.now 0 num).0 }
 {
     HeldReader::new(bytes).peak_bits(num)
 }
 
 // Two reads, one after the other, by one reader that is made at a place. A refused one does not move, so the second then begins where the first did.
 pub fn read_two(bytes: &[u8], place: BitPos, first: u32, second: u32) -> TwoReads
-    ensures { toldTwo result ≡ twoOf bytes.now place.0 first second }
+    ensures { told_two result ≡ two_of bytes.now place.0 first second }
 {
     let mut reader = HeldReader::at(bytes, place);
     let one = reader.read_bits(first);

@@ -17,13 +17,13 @@ self_eq (inf false) = refl
 self_eq (fin true m e) = simp (eq-eqb (m * up e * down e) (m * up e * down e) refl)
 self_eq (fin false m e) = simp (eq-eqb (m * up e * down e) (m * up e * down e) refl)
 
-not-twice : (b : Bool) → not (not b) ≡ b
-not-twice true = refl
-not-twice false = refl
+not_twice : (b : Bool) → not (not b) ≡ b
+not_twice true = refl
+not_twice false = refl
 
-pub self-ne : (x : Float) → ne x x ≡ is_nan x
+pub self_ne : (x : Float) → ne x x ≡ is_nan x
 unfolding ne
-self-ne x = ap not (self_eq x) ∙ not-twice (is_nan x)
+self_ne x = ap not (self_eq x) ∙ not_twice (is_nan x)
 
 pub no_nan : (x : Float) → eq x x ≡ true → is_nan x ≡ false
 no_nan x e = not-true (is_nan x) (sym (self_eq x) ∙ e)
@@ -32,19 +32,19 @@ pub some_nan : (x : Float) → eq x x ≡ false → is_nan x ≡ true
 some_nan x e = not-false (is_nan x) (sym (self_eq x) ∙ e)
 
 -- the last of the cases of `same`
-pub last-case : (x y : Float) (t u : ℕ) → t ≡ u → eq x y ≡ false → is_nan x ≡ true → ne y y ≡ (eqb t u && (eq x y || (is_nan x && is_nan y)))
-last-case x y t u e f n = rw (self-ne y, eq-eqb t u e, f, n)
+pub last_case : (x y : Float) (t u : ℕ) → t ≡ u → eq x y ≡ false → is_nan x ≡ true → ne y y ≡ (eqb t u && (eq x y || (is_nan x && is_nan y)))
+last_case x y t u e f n = rw (self_ne y, eq-eqb t u e, f, n)
 
 -- ---- patterns of a NaN
 
-pub is-nan : (x : Float) → is_nan x ≡ true → x ≡ nan
+pub is_nan_lem : (x : Float) → is_nan x ≡ true → x ≡ nan
 unfolding is_nan
-is-nan nan e = refl
-is-nan (inf s) e = cc
-is-nan (fin s m d) e = cc
+is_nan_lem nan e = refl
+is_nan_lem (inf s) e = cc
+is_nan_lem (fin s m d) e = cc
 
 pub above : (n : ℕ) → 0x7ff0_0000_0000_0000 < n % 0x8000_0000_0000_0000 → of_bits binary64 n ≡ nan
-above n h = is-nan (of_bits binary64 n) (sym (nan_bits_is binary64 n) ∙ nan_bits_above binary64 n ∙ lt-ltb _ _ h)
+above n h = is_nan_lem (of_bits binary64 n) (sym (nan_bits_is binary64 n) ∙ nan_bits_above binary64 n ∙ lt-ltb _ _ h)
 
-pub not-above : (n : ℕ) → n % 0x8000_0000_0000_0000 ≤ 0x7ff0_0000_0000_0000 → nan_bits binary64 n ≡ false
-not-above n h = nan_bits_above binary64 n ∙ le-ltb _ _ h
+pub not_above : (n : ℕ) → n % 0x8000_0000_0000_0000 ≤ 0x7ff0_0000_0000_0000 → nan_bits binary64 n ≡ false
+not_above n h = nan_bits_above binary64 n ∙ le-ltb _ _ h

@@ -1,6 +1,6 @@
 -- Worked cases of points: which are alike, their order, and what comes back of a value's bits.
 use Rattle.std.specs.Prelude.{◌≡◌, Bool, true, false, List, [], ◌∷◌, map, ℕ}
-use Rattle.point.specs.Points.{sameOf, timeOrder, toStored, toPoint}
+use Rattle.point.specs.Points.{same_of, time_order, to_stored, to_point}
 use Rattle.point.specs.declared.Ordering.{Ordering}
 use Rattle.point.specs.declared.Ordering.TheVariants.{Less, Equal, Greater}
 
@@ -18,9 +18,9 @@ pub data Seen : Type 0 where
   number : ℕ → Seen
 
 unfoldable pub seen : Case → Seen
-seen (alike t a u b e) = whether (sameOf (toPoint (record { time = t; bits = a })) (toPoint (record { time = u; bits = b })))
-seen (order t u e) = how (timeOrder t u)
-seen (there a e) = number (toStored (toPoint (record { time = 0; bits = a }))).bits
+seen (alike t a u b e) = whether (same_of (to_point (record { time = t; bits = a })) (to_point (record { time = u; bits = b })))
+seen (order t u e) = how (time_order t u)
+seen (there a e) = number (to_stored (to_point (record { time = 0; bits = a }))).bits
 
 unfoldable pub expected : Case → Seen
 expected (alike t a u b e) = whether e

@@ -2,7 +2,7 @@
 use Rattle.std.specs.Prelude.{◌≡◌, true, false, ℕ, ◌^◌, ◌<◌, T}
 use Rattle.std.specs.Float.Ieee.{fits, is_nan, nan_bits}
 use Rattle.std.specs.Float.{binary64}
-use Rattle.point.specs.Points.{sameOf, timeOrder, toStored, toPoint}
+use Rattle.point.specs.Points.{same_of, time_order, to_stored, to_point}
 use Rattle.point.specs.declared.DataPoint.{DataPoint}
 use Rattle.point.specs.declared.Stored.{Stored}
 use Rattle.point.specs.declared.Ordering.TheVariants.{Less, Equal, Greater}
@@ -10,21 +10,21 @@ use Rattle.point.specs.declared.Ordering.TheVariants.{Less, Equal, Greater}
 -- `there_and_back`: what the two forms keep
 pub record ThereAndBack : Type 0 where
   -- every bit, for each pattern that is no NaN's
-  pub bitsBack : (s : Stored) → s.bits < 2 ^ 64 → nan_bits binary64 s.bits ≡ false → toStored (toPoint s) ≡ s
+  pub bits_back : (s : Stored) → s.bits < 2 ^ 64 → nan_bits binary64 s.bits ≡ false → to_stored (to_point s) ≡ s
   -- of a NaN's pattern, that it is one
-  pub nanBack : (s : Stored) → nan_bits binary64 s.bits ≡ true → toStored (toPoint s) ≡ record { time = s.time; bits = 0x7ff8_0000_0000_0000 }
+  pub nan_back : (s : Stored) → nan_bits binary64 s.bits ≡ true → to_stored (to_point s) ≡ record { time = s.time; bits = 0x7ff8_0000_0000_0000 }
   -- the whole point, for each value that an f64 has
-  pub pointBack : (p : DataPoint) → T (fits binary64 p.value) → toPoint (toStored p) ≡ p
+  pub point_back : (p : DataPoint) → T (fits binary64 p.value) → to_point (to_stored p) ≡ p
 
 -- `alike`
 pub record Alike : Type 0 where
   -- a point and itself, a NaN too
-  pub self : (p : DataPoint) → sameOf p p ≡ true
+  pub self : (p : DataPoint) → same_of p p ≡ true
   -- any two NaNs at one time
-  pub nans : (p q : DataPoint) → p.time ≡ q.time → is_nan p.value ≡ true → is_nan q.value ≡ true → sameOf p q ≡ true
+  pub nans : (p q : DataPoint) → p.time ≡ q.time → is_nan p.value ≡ true → is_nan q.value ≡ true → same_of p q ≡ true
 
--- `by-time`: the order looks at the times alone
+-- `by_time`: the order looks at the times alone
 pub record ByTime (x y : ℕ) : Type 0 where
-  pub less : x < y → timeOrder x y ≡ Less
-  pub equal : x ≡ y → timeOrder x y ≡ Equal
-  pub greater : y < x → timeOrder x y ≡ Greater
+  pub less : x < y → time_order x y ≡ Less
+  pub equal : x ≡ y → time_order x y ≡ Equal
+  pub greater : y < x → time_order x y ≡ Greater

@@ -1,7 +1,7 @@
 // A point of a series: a time and a value. As people handle it, a float; as the codec keeps it, the float's 64 bits.
 
 ghost use Rattle.std.specs.Prelude.{◌≡◌, min, length};
-ghost use Rattle.point.specs.Points.{newOf, sameOf, timeOrder, toStored, toPoint};
+ghost use Rattle.point.specs.Points.{new_of, same_of, time_order, to_stored, to_point};
 
 // A time and a value, as in the Rust. Round trips are about `Stored`, since a float here keeps no payload of a NaN.
 #[derive(Drop)]
@@ -28,7 +28,7 @@ pub enum Ordering {
 impl DataPoint {
     // Create a point from a time and a value.
     pub fn new(time: u64, value: f64) -> Self
-        ensures { result ≡ newOf time value }
+        ensures { result ≡ new_of time value }
     {
         Self { time, value }
     }
@@ -49,7 +49,7 @@ impl DataPoint {
 
     // The Rust's `==`: any two NaNs are alike, and so are 0.0 and -0.0.
     pub fn same(self, other: DataPoint) -> bool
-        ensures { result ≡ sameOf self other }
+        ensures { result ≡ same_of self other }
     {
         let x = self.value;
         let y = other.value;
@@ -68,7 +68,7 @@ impl DataPoint {
 
     // The Rust's order, which looks at the times alone.
     pub fn cmp(self, other: DataPoint) -> Ordering
-        ensures { result ≡ timeOrder self.time other.time }
+        ensures { result ≡ time_order self.time other.time }
     {
         let x = self.time;
         let y = other.time;
@@ -83,7 +83,7 @@ impl DataPoint {
 
     // The point with its value's bits. A NaN, whatever its payload was, is written as the one pattern 0x7ff8000000000000.
     pub fn to_stored(self) -> Stored
-        ensures { result ≡ toStored self }
+        ensures { result ≡ to_stored self }
     {
         let time = self.time;
         let x = self.value;
@@ -101,7 +101,7 @@ impl DataPoint {
 impl Stored {
     // The point with the value that the bits stand for. Any pattern of a NaN gives a NaN.
     pub fn to_point(self) -> DataPoint
-        ensures { result ≡ toPoint self }
+        ensures { result ≡ to_point self }
     {
         let time = self.time;
         let b = self.bits;

@@ -14,29 +14,29 @@ number_at : map (λ (x : ℕ). value_of (bits_of 4 x)) (0 ∷ 1 ∷ 6 ∷ 9 ∷ 
 unfolding odd bits_of digit value_of
 number_at = refl
 
-digits-at : bits_of 3 (value_of (true ∷ false ∷ false ∷ [])) ≡ true ∷ false ∷ false ∷ []
+digits_at : bits_of 3 (value_of (true ∷ false ∷ false ∷ [])) ≡ true ∷ false ∷ false ∷ []
 unfolding odd bits_of digit value_of
-digits-at = refl
+digits_at = refl
 
--- ---- `bytes-are-bits`: two bytes have sixteen bits; 0 and 1 have other bits
+-- ---- `bytes_are_bits`: two bytes have sixteen bits; 0 and 1 have other bits
 
-bytes-at : length (bits (0 ∷ 255 ∷ [])) ≡ 16
+bytes_at : length (bits (0 ∷ 255 ∷ [])) ≡ 16
 unfolding bits_of bits
-bytes-at = refl
+bytes_at = refl
 
 one_at : ¬ (bits (0 ∷ []) ≡ bits (1 ∷ []))
 unfolding odd bits_of digit value_of bits
 one_at e = let z : ◌≡◌ {A = ℕ} 0 1 = ap value_of e in let y : ⊥ = omega arith in y
 
--- ---- `writes-leave`: over three bytes of ones: no bits at 3; six bits at 3; five bits that end the buffer
+-- ---- `writes_leave`: over three bytes of ones: no bits at 3; six bits at 3; five bits that end the buffer
 
 ones : List Bool
 unfolding bits bits_of odd
 ones = bits (255 ∷ 255 ∷ 255 ∷ [])
 
-none-at : replaced ones 3 [] ≡ ones
+none_at : replaced ones 3 [] ≡ ones
 unfolding ones odd bits_of bits edge laid replaced
-none-at = refl
+none_at = refl
 
 back_at : field (replaced ones 3 (bits_of 6 0b010011)) 3 6 ≡ bits_of 6 0b010011
 unfolding ones odd bits_of bits edge field laid replaced
@@ -46,6 +46,6 @@ rest_at : field (replaced ones 3 (bits_of 6 0)) 9 (spare 9) ≡ replicate (spare
 unfolding ones odd bits_of bits edge field laid replaced
 rest_at = refl
 
-size-at : length (replaced ones 19 (bits_of 5 0)) ≡ length ones
+size_at : length (replaced ones 19 (bits_of 5 0)) ≡ length ones
 unfolding ones odd bits_of bits edge laid replaced
-size-at = refl
+size_at = refl

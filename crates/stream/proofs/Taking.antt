@@ -10,7 +10,7 @@ use lib.Seq.{take_at, drop_at, length-take-le, drop-drop, take-add}
 use lib.Arith.{digits_lt}
 use lib.Pow.{high, low, pow-add, pow_pos, pow-lt, pow_mono, mod-pow-add, shl_exact, shl-shr}
 use Rattle.stream.specs.Bits.{bits_of, value_of, bits, field}
-use Rattle.stream.proofs.Numbers.{length-bitsOf, bitsOf-add, value-bitsOf, value-lt, value-append}
+use Rattle.stream.proofs.Numbers.{length_bits_of, bits_of_add, value_bits_of, value_lt, value_append}
 use Rattle.stream.proofs.Bytes.{bits_at}
 
 -- `1 << c`
@@ -19,44 +19,44 @@ one_shl c w h = rw one-mul (mod-eq_of_lt (pow-lt h))
 
 -- ---- fields and their values
 
-pub length-field : (bs : List Bool) (p n : ℕ) → p + n ≤ length bs → length (field bs p n) ≡ n
+pub length_field : (bs : List Bool) (p n : ℕ) → p + n ≤ length bs → length (field bs p n) ≡ n
 unfolding field
-length-field bs p n h = length-take-le n (drop p bs) (rw length-drop (omega arith))
+length_field bs p n h = length-take-le n (drop p bs) (rw length-drop (omega arith))
 
 -- a value of n digits
 pub field_lt : (bs : List Bool) (p n : ℕ) → value_of (field bs p n) < 2 ^ n
 unfolding field
-field_lt bs p n = lt_of_lt_of_le (value-lt (take n (drop p bs))) (pow_mono (rw length-take (min-le_left n (length (drop p bs)))))
+field_lt bs p n = lt_of_lt_of_le (value_lt (take n (drop p bs))) (pow_mono (rw length-take (min-le_left n (length (drop p bs)))))
 
 -- a field of a + b bits is one of a and the b behind it
-field-add : (bs : List Bool) (p a b : ℕ) → field bs p (a + b) ≡ field bs p a ++ field bs (p + a) b
+field_add : (bs : List Bool) (p a b : ℕ) → field bs p (a + b) ≡ field bs p a ++ field bs (p + a) b
 unfolding field
-field-add bs p a b = rw (take-add a b (drop p bs), drop-drop a p bs)
+field_add bs p a b = rw (take-add a b (drop p bs), drop-drop a p bs)
 
 -- its value, the value of the high part and that of the low part
 module _ (bs : List Bool) (p a b : ℕ) (h : p + (a + b) ≤ length bs) where
   pub field_both : value_of (field bs p (a + b)) ≡ value_of (field bs p a) * 2 ^ b + value_of (field bs (p + a) b)
-  field_both = rw (field-add bs p a b, value-append (field bs p a) (field bs (p + a) b), length-field bs (p + a) b (omega arith))
+  field_both = rw (field_add bs p a b, value_append (field bs p a) (field bs (p + a) b), length_field bs (p + a) b (omega arith))
 
-  pub field-high : value_of (field bs p (a + b)) / 2 ^ b ≡ value_of (field bs p a)
-  field-high = rw field_both (high (value_of (field bs p a)) b (field_lt bs (p + a) b))
+  pub field_high : value_of (field bs p (a + b)) / 2 ^ b ≡ value_of (field bs p a)
+  field_high = rw field_both (high (value_of (field bs p a)) b (field_lt bs (p + a) b))
 
-  pub field-low : value_of (field bs p (a + b)) % 2 ^ b ≡ value_of (field bs (p + a) b)
-  field-low = rw field_both (low (value_of (field bs p a)) b (field_lt bs (p + a) b))
+  pub field_low : value_of (field bs p (a + b)) % 2 ^ b ≡ value_of (field bs (p + a) b)
+  field_low = rw field_both (low (value_of (field bs p a)) b (field_lt bs (p + a) b))
 
 -- ---- within one byte
 
 -- the c digits behind the first k of k + (c + r)
 middle : (k c r x : ℕ) (rest : List Bool) → take c (drop k (bits_of (k + (c + r)) x ++ rest)) ≡ bits_of c (x / 2 ^ r)
 middle k c r x rest =
-    rw (bitsOf-add k (c + r) x, bitsOf-add c r x, append_assoc (bits_of k (x / 2 ^ (c + r))), append_assoc (bits_of c (x / 2 ^ r)))
-    (ap (take c) (drop_at (bits_of k (x / 2 ^ (c + r))) _ k (length-bitsOf k _)) ∙ take_at (bits_of c (x / 2 ^ r)) _ c (length-bitsOf c _))
+    rw (bits_of_add k (c + r) x, bits_of_add c r x, append_assoc (bits_of k (x / 2 ^ (c + r))), append_assoc (bits_of c (x / 2 ^ r)))
+    (ap (take c) (drop_at (bits_of k (x / 2 ^ (c + r))) _ k (length_bits_of k _)) ∙ take_at (bits_of c (x / 2 ^ r)) _ c (length_bits_of c _))
 
 -- c bits at p that lie in one byte
-byte-field : (l : List ℕ) (p c : ℕ) → 0 < c → p % 8 + c ≤ 8 → p + c ≤ 8 * length l
+byte_field : (l : List ℕ) (p c : ℕ) → 0 < c → p % 8 + c ≤ 8 → p + c ≤ 8 * length l
     → field (bits l) p c ≡ bits_of c (get_or l (p / 8) 0 / 2 ^ (8 - p % 8 - c))
 unfolding field
-byte-field l p c some fit h =
+byte_field l p c some fit h =
     let place : 8 * (p / 8) + p % 8 ≡ p = omega arith in
     let eight : p % 8 + (c + (8 - p % 8 - c)) ≡ 8 = omega arith in
     ap (take c) (ap (λ (n : ℕ). drop n (bits l)) (sym place) ∙ sym (drop-drop (p % 8) (8 * (p / 8)) (bits l))
@@ -64,8 +64,8 @@ byte-field l p c some fit h =
     ∙ rw eight at (middle (p % 8) c (8 - p % 8 - c) (get_or l (p / 8) 0) (bits (drop (suc (p / 8)) l)))
 
 -- a number of c digits is the value of its digits
-value-of-digits : (c x y : ℕ) → x < 2 ^ c → bits_of c x ≡ bits_of c y → x ≡ value_of (bits_of c y)
-value-of-digits c x y h e = sym (mod-eq_of_lt h) ∙ sym (value-bitsOf c x) ∙ ap value_of e
+value_of_digits : (c x y : ℕ) → x < 2 ^ c → bits_of c x ≡ bits_of c y → x ≡ value_of (bits_of c y)
+value_of_digits c x y h e = sym (mod-eq_of_lt h) ∙ sym (value_bits_of c x) ∙ ap value_of e
 
 -- `(v << c) + x`
 module _ (v c x : ℕ) (hc : c ≤ 64) (hv : v < 2 ^ (64 - c)) (hx : x < 2 ^ c) where
@@ -75,15 +75,15 @@ module _ (v c x : ℕ) (hc : c ≤ 64) (hv : v < 2 ^ (64 - c)) (hx : x < 2 ^ c) 
   shl_small : v * 2 ^ c % 2 ^ 64 ≡ v * 2 ^ c
   shl_small = shl_exact (64 - c) c 64 hv (omega arith)
 
-  pub shl-sum : v * 2 ^ c % 2 ^ 64 + x < 2 ^ 64
-  shl-sum = rw shl_small (rw (← (pow-add 2 (64 - c) c), both) at (digits_lt hv hx))
+  pub shl_sum : v * 2 ^ c % 2 ^ 64 + x < 2 ^ 64
+  shl_sum = rw shl_small (rw (← (pow-add 2 (64 - c) c), both) at (digits_lt hv hx))
 
 -- v, and the c digits at p behind it
-pub more-value : (l : List ℕ) (p c v x w : ℕ) → 0 < c → p % 8 + c ≤ 8 → p + c ≤ 8 * length l → v < 2 ^ (64 - c) → w ≡ get_or l (p / 8) 0
+pub more_value : (l : List ℕ) (p c v x w : ℕ) → 0 < c → p % 8 + c ≤ 8 → p + c ≤ 8 * length l → v < 2 ^ (64 - c) → w ≡ get_or l (p / 8) 0
     → x < 2 ^ c → bits_of c x ≡ bits_of c (w / 2 ^ (8 - p % 8 - c)) → v * 2 ^ c % 2 ^ 64 + x ≡ v * 2 ^ c + value_of (field (bits l) p c)
-more-value l p c v x w some fit h hv ew hx ex =
+more_value l p c v x w some fit h hv ew hx ex =
     ap₂ (λ (a b : ℕ). a + b) (shl_small v c x (omega arith) hv hx)
-    (value-of-digits c x (w / 2 ^ (8 - p % 8 - c)) hx ex ∙ ap value_of (rw ew (sym (byte-field l p c some fit h))))
+    (value_of_digits c x (w / 2 ^ (8 - p % 8 - c)) hx ex ∙ ap value_of (rw ew (sym (byte_field l p c some fit h))))
 
 -- ---- a byte's bits at a time
 
@@ -96,10 +96,10 @@ pub has_room : (bs : List Bool) (at d c v : ℕ) → d + c ≤ 64 → v ≡ valu
 has_room bs at d c v h e = rw e (lt_of_lt_of_le (field_lt bs at d) (pow_mono (omega arith)))
 
 -- c digits more are read
-pub more-read : (bs : List Bool) (at n left c p v r : ℕ) → left ≤ n → c ≤ left → p ≡ at + (n - left) → p + c ≤ length bs
+pub more_read : (bs : List Bool) (at n left c p v r : ℕ) → left ≤ n → c ≤ left → p ≡ at + (n - left) → p + c ≤ length bs
     → v ≡ value_of (field bs at (n - left)) → r ≡ v * 2 ^ c + value_of (field bs p c)
     → r ≡ value_of (field bs at (n - (left - c)))
-more-read bs at n left c p v r ln cl ep h ev er =
+more_read bs at n left c p v r ln cl ep h ev er =
     let more : n - left + c ≡ n - (left - c) = omega arith in
     let whole : r ≡ value_of (field bs at (n - left + c)) = rw (er, ev, ep) (sym (field_both bs at (n - left) c (omega arith))) in
     rw more at whole
@@ -110,11 +110,11 @@ all_read bs at n left v z e = rw (z, sub-zero) at e
 -- ---- out of a word
 
 -- a byte is the value of its eight bits
-pub byte-value : (l : List ℕ) (i x : ℕ) → x ≡ get_or l i 0 → i < length l → x < 256 → x ≡ value_of (field (bits l) (8 * i) 8)
+pub byte_value : (l : List ℕ) (i x : ℕ) → x ≡ get_or l i 0 → i < length l → x < 256 → x ≡ value_of (field (bits l) (8 * i) 8)
 unfolding field
-byte-value l i x e h k =
-    sym (ap value_of (ap (take 8) (bits_at i l h) ∙ take_at (bits_of 8 (get_or l i 0)) _ 8 (length-bitsOf 8 _))
-    ∙ value-bitsOf 8 (get_or l i 0) ∙ mod-eq_of_lt (rw e at k) ∙ sym e)
+byte_value l i x e h k =
+    sym (ap value_of (ap (take 8) (bits_at i l h) ∙ take_at (bits_of 8 (get_or l i 0)) _ 8 (length_bits_of 8 _))
+    ∙ value_bits_of 8 (get_or l i 0) ∙ mod-eq_of_lt (rw e at k) ∙ sym e)
 
 -- the k bytes from byte i on, and the next one
 module _ (bs : List Bool) (i k v x : ℕ) (ev : v ≡ value_of (field bs (8 * i) (8 * k))) (ex : x ≡ value_of (field bs (8 * (i + k)) 8)) (h : 8 * (i + k) + 8 ≤ length bs) where
@@ -133,37 +133,37 @@ word_room bs i k v e l =
     omega arith
 
 -- `w << k` in r + k digits
-pub shl-mod : (w r k : ℕ) → w * 2 ^ k % 2 ^ (r + k) ≡ w % 2 ^ r * 2 ^ k
-shl-mod w r k =
+pub shl_mod : (w r k : ℕ) → w * 2 ^ k % 2 ^ (r + k) ≡ w % 2 ^ r * 2 ^ k
+shl_mod w r k =
     let none : w * 2 ^ k % 2 ^ k ≡ 0 = ap (λ (n : ℕ). n % 2 ^ k) (sym (add-zero (w * 2 ^ k))) ∙ low w k (pow_pos k) in
     mod-pow-add (w * 2 ^ k) r k ∙ ap₂ (λ (a b : ℕ). a % 2 ^ r * 2 ^ k + b) (shl-shr w k) none ∙ add-zero (w % 2 ^ r * 2 ^ k)
 
 -- all but the first k of k + r bits, with the first k of the k + m behind them
-ahead-parts : (bs : List Bool) (p k r m w y : ℕ) → w ≡ value_of (field bs p (k + r)) → y ≡ value_of (field bs (p + (k + r)) (k + m))
+ahead_parts : (bs : List Bool) (p k r m w y : ℕ) → w ≡ value_of (field bs p (k + r)) → y ≡ value_of (field bs (p + (k + r)) (k + m))
     → p + (k + r) + (k + m) ≤ length bs → w * 2 ^ k % 2 ^ (r + k) + y / 2 ^ m ≡ value_of (field bs (p + k) (r + k))
-ahead-parts bs p k r m w y ew ey h =
+ahead_parts bs p k r m w y ew ey h =
     let e : p + k + r ≡ p + (k + r) = omega arith in
-    rw (ew, ey, shl-mod (value_of (field bs p (k + r))) r k, field-low bs p k r (omega arith), field-high bs (p + (k + r)) k m (omega arith))
+    rw (ew, ey, shl_mod (value_of (field bs p (k + r))) r k, field_low bs p k r (omega arith), field_high bs (p + (k + r)) k m (omega arith))
     (sym (rw e at (field_both bs (p + k) r k (omega arith))))
 
 -- 64 bits at a place, out of the word of its byte and the byte behind it
 module _ (bs : List Bool) (at w y : ℕ) (ew : w ≡ value_of (field bs (8 * (at / 8)) 64)) (ey : y ≡ value_of (field bs (8 * (at / 8 + 8)) 8)) (h : 8 * (at / 8 + 9) ≤ length bs) where
-  pub ahead-sum : w * 2 ^ (at % 8) % 2 ^ 64 + y / 2 ^ (8 - at % 8) ≡ value_of (field bs at 64)
-  ahead-sum =
+  pub ahead_sum : w * 2 ^ (at % 8) % 2 ^ 64 + y / 2 ^ (8 - at % 8) ≡ value_of (field bs at 64)
+  ahead_sum =
       let a : at % 8 + (64 - at % 8) ≡ 64 = omega arith in
       let b : 64 - at % 8 + at % 8 ≡ 64 = omega arith in
       let c : at % 8 + (8 - at % 8) ≡ 8 = omega arith in
       let d : 8 * (at / 8) + at % 8 ≡ at = omega arith in
       let e : 8 * (at / 8 + 8) ≡ 8 * (at / 8) + 64 = omega arith in
       rw (b, d) at
-      (ahead-parts bs (8 * (at / 8)) (at % 8) (64 - at % 8) (8 - at % 8) w y (rw a ew) (rw (a, c) (rw e at ey)) (rw (a, c) (omega arith)))
+      (ahead_parts bs (8 * (at / 8)) (at % 8) (64 - at % 8) (8 - at % 8) w y (rw a ew) (rw (a, c) (rw e at ey)) (rw (a, c) (omega arith)))
 
-  pub ahead-fits : w * 2 ^ (at % 8) % 2 ^ 64 + y / 2 ^ (8 - at % 8) < 2 ^ 64
-  ahead-fits = rw ahead-sum (field_lt bs at 64)
+  pub ahead_fits : w * 2 ^ (at % 8) % 2 ^ 64 + y / 2 ^ (8 - at % 8) < 2 ^ 64
+  ahead_fits = rw ahead_sum (field_lt bs at 64)
 
 -- the first n of them
-pub ahead-some : (bs : List Bool) (at n w : ℕ) → w ≡ value_of (field bs at 64) → n ≤ 64 → at + 64 ≤ length bs
+pub ahead_some : (bs : List Bool) (at n w : ℕ) → w ≡ value_of (field bs at 64) → n ≤ 64 → at + 64 ≤ length bs
     → w / 2 ^ (64 - n) ≡ value_of (field bs at n)
-ahead-some bs at n w ew l h =
+ahead_some bs at n w ew l h =
     let a : n + (64 - n) ≡ 64 = omega arith in
-    rw ew (rw a at (field-high bs at n (64 - n) (rw a h)))
+    rw ew (rw a at (field_high bs at n (64 - n) (rw a h)))

@@ -30,12 +30,12 @@ bits [] = []
 bits (x ∷ xs) = bits_of 8 x ++ bits xs
 
 -- how many bytes hold q bits
-abbrev pub bytesFor : ℕ → ℕ
-bytesFor q = (q + 7) / 8
+abbrev pub bytes_for : ℕ → ℕ
+bytes_for q = (q + 7) / 8
 
 -- the first byte's edge at or after bit q
 unfoldable pub edge : ℕ → ℕ
-edge q = 8 * bytesFor q
+edge q = 8 * bytes_for q
 
 -- the bits from q to that edge
 abbrev pub spare : ℕ → ℕ

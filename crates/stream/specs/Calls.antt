@@ -1,11 +1,11 @@
 -- What the calls of the bit writer and the bit reader tell, and what a write leaves: document 01, "Port order", 2.
 use Rattle.std.specs.Prelude.{Bool, cond, List, [], ◌∷◌, ℕ, ◌+◌, ◌*◌, ◌/◌, min, length, ltb}
 use Rattle.stream.specs.Bits.{bits_of, value_of, bits, field, replaced}
-use Rattle.stream.specs.Refusals.{number_of, when, or_else, byFault}
+use Rattle.stream.specs.Refusals.{number_of, when, or_else, by_fault}
 use Rattle.stream.specs.declared.Bit.{Bit}
 use Rattle.stream.specs.declared.Bit.TheVariants.{Zero, One}
 use Rattle.stream.specs.declared.position.InBits.{InBits}
-use Rattle.stream.specs.declared.position.InBits.TheVariants as inBits
+use Rattle.stream.specs.declared.position.InBits.TheVariants as in_bits
 use Rattle.stream.specs.declared.buffered_write.WriteAnswer.{WriteAnswer}
 use Rattle.stream.specs.declared.buffered_write.WriteAnswer.TheVariants as wrote
 use Rattle.stream.specs.declared.buffered_read.BitAnswer.{BitAnswer}
@@ -31,47 +31,47 @@ pub data Told : Type 0 where
   given : (values : List ℕ) → Told
   refused : (number : ℕ) → Told
 
-abbrev pub bitNumber : Bit → ℕ
-bitNumber Zero = 0
-bitNumber One = 1
+abbrev pub bit_number : Bit → ℕ
+bit_number Zero = 0
+bit_number One = 1
 
-abbrev pub tellWrite : WriteAnswer → Told
-tellWrite wrote.Done = given []
-tellWrite (wrote.Refused r) = refused (number_of r)
+abbrev pub tell_write : WriteAnswer → Told
+tell_write wrote.Done = given []
+tell_write (wrote.Refused r) = refused (number_of r)
 
-abbrev pub tellBit : BitAnswer → Told
-tellBit (bit.Bit b) = given (bitNumber b ∷ [])
-tellBit (bit.Refused r) = refused (number_of r)
+abbrev pub tell_bit : BitAnswer → Told
+tell_bit (bit.Bit b) = given (bit_number b ∷ [])
+tell_bit (bit.Refused r) = refused (number_of r)
 
-abbrev pub tellByte : ByteAnswer → Told
-tellByte (byte.Byte x) = given (x ∷ [])
-tellByte (byte.Refused r) = refused (number_of r)
+abbrev pub tell_byte : ByteAnswer → Told
+tell_byte (byte.Byte x) = given (x ∷ [])
+tell_byte (byte.Refused r) = refused (number_of r)
 
-abbrev pub tellBits : BitsAnswer → Told
-tellBits (many.Bits v) = given (v ∷ [])
-tellBits (many.Refused r) = refused (number_of r)
+abbrev pub tell_bits : BitsAnswer → Told
+tell_bits (many.Bits v) = given (v ∷ [])
+tell_bits (many.Refused r) = refused (number_of r)
 
-abbrev pub tellAhead : Ahead → Told
-tellAhead ahead.Short = given []
-tellAhead (ahead.Word w) = given (w ∷ [])
+abbrev pub tell_ahead : Ahead → Told
+tell_ahead ahead.Short = given []
+tell_ahead (ahead.Word w) = given (w ∷ [])
 
-abbrev pub tellInBits : InBits → Told
-tellInBits (inBits.At p) = given (p.0 ∷ [])
-tellInBits (inBits.Refused r) = refused (number_of r)
+abbrev pub tell_in_bits : InBits → Told
+tell_in_bits (in_bits.At p) = given (p.0 ∷ [])
+tell_in_bits (in_bits.Refused r) = refused (number_of r)
 
 -- ---- outcomes on paper: what was answered, the position after it and, of a write, the bits after it
 
-abbrev pub toldWrite : Written → List ℕ → Told × ℕ × List Bool
-toldWrite r l = (tellWrite r.answer, r.writer.at.0, bits l)
+abbrev pub told_write : Written → List ℕ → Told × ℕ × List Bool
+told_write r l = (tell_write r.answer, r.writer.at.0, bits l)
 
-abbrev pub toldBit : BitRead → Told × ℕ
-toldBit r = (tellBit r.answer, r.reader.at.0)
+abbrev pub told_bit : BitRead → Told × ℕ
+told_bit r = (tell_bit r.answer, r.reader.at.0)
 
-abbrev pub toldByte : ByteRead → Told × ℕ
-toldByte r = (tellByte r.answer, r.reader.at.0)
+abbrev pub told_byte : ByteRead → Told × ℕ
+told_byte r = (tell_byte r.answer, r.reader.at.0)
 
-abbrev pub toldBits : BitsRead → Told × ℕ
-toldBits r = (tellBits r.answer, r.reader.at.0)
+abbrev pub told_bits : BitsRead → Told × ℕ
+told_bits r = (tell_bits r.answer, r.reader.at.0)
 
 -- ---- fields
 
@@ -80,32 +80,32 @@ abbrev pub width : ℕ → ℕ
 width num = min num 64
 
 -- n bits at p in a buffer of len bytes: 5, then 13, then the refusal of a field that does not fit; 0 where it is there
-unfoldable pub fieldFault : ℕ → ℕ → ℕ → ℕ → ℕ
-fieldFault short len p n =
+unfoldable pub field_fault : ℕ → ℕ → ℕ → ℕ → ℕ
+field_fault short len p n =
     or_else (when (ltb limit len) 5) (or_else (when (ltb (8 * len) p) 13) (when (ltb (8 * len) (p + n)) short))
 
 -- a write of the num low bits of x at p into the bytes l
-unfoldable pub writeOf : List ℕ → ℕ → ℕ → ℕ → Told × ℕ × List Bool
-writeOf l p x num =
-    byFault {A = Told × ℕ × List Bool} (fieldFault 1 (length l) p (width num))
+unfoldable pub write_of : List ℕ → ℕ → ℕ → ℕ → Told × ℕ × List Bool
+write_of l p x num =
+    by_fault {A = Told × ℕ × List Bool} (field_fault 1 (length l) p (width num))
     (given [], p + width num, replaced (bits l) p (bits_of (width num) x))
     (λ r. (refused r, p, bits l))
 
 -- a read of num bits at p out of the bytes l
 unfoldable pub read_of : List ℕ → ℕ → ℕ → Told × ℕ
 read_of l p num =
-    byFault {A = Told × ℕ} (fieldFault 7 (length l) p (width num))
+    by_fault {A = Told × ℕ} (field_fault 7 (length l) p (width num))
     (given (value_of (field (bits l) p (width num)) ∷ []), p + width num)
     (λ r. (refused r, p))
 
 -- a peek is a read that does not move
-unfoldable pub peekOf : List ℕ → ℕ → ℕ → Told × ℕ
-peekOf l p num = ((read_of l p num).0, p)
+unfoldable pub peek_of : List ℕ → ℕ → ℕ → Told × ℕ
+peek_of l p num = ((read_of l p num).0, p)
 
 -- the 64 bits at p, where that byte and eight more are there; nothing elsewhere
 unfoldable pub ahead_of : List ℕ → ℕ → Told
 ahead_of l p = given (cond (ltb (length l) (p / 8 + 9)) [] (value_of (field (bits l) p 64) ∷ []))
 
 -- the position behind n bytes: 5 above the limit
-unfoldable pub inBitsOf : ℕ → Told
-inBitsOf n = byFault (when (ltb limit n) 5) (given (8 * n ∷ [])) refused
+unfoldable pub in_bits_of : ℕ → Told
+in_bits_of n = by_fault (when (ltb limit n) 5) (given (8 * n ∷ [])) refused

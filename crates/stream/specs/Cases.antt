@@ -1,7 +1,7 @@
 -- Worked cases of bits, bytes and calls.
 use Rattle.std.specs.Prelude.{◌≡◌, Bool, true, false, List, [], ◌∷◌, ◌++◌, map, ℕ, ◌-◌, ◌^◌, replicate}
 use Rattle.stream.specs.Bits.{bits_of, value_of, bits, padded}
-use Rattle.stream.specs.Calls.{Told, given, refused, fieldFault, writeOf, read_of, peekOf, ahead_of, inBitsOf}
+use Rattle.stream.specs.Calls.{Told, given, refused, field_fault, write_of, read_of, peek_of, ahead_of, in_bits_of}
 
 pub data Case : Type 0 where
   -- the n low digits of a number
@@ -24,34 +24,34 @@ pub data Case : Type 0 where
 
 pub data Seen : Type 0 where
   number : ℕ → Seen
-  bitList : List Bool → Seen
+  bit_list : List Bool → Seen
   answer : Told → ℕ → Seen
   place : Told → Seen
 
-unfoldable pub seenRead : Told × ℕ → Seen
-seenRead o = answer o.0 o.1
+unfoldable pub seen_read : Told × ℕ → Seen
+seen_read o = answer o.0 o.1
 
-unfoldable pub seenWrite : Told × ℕ × List Bool → List Seen
-seenWrite o = answer o.0 o.1 ∷ bitList o.2 ∷ []
+unfoldable pub seen_write : Told × ℕ × List Bool → List Seen
+seen_write o = answer o.0 o.1 ∷ bit_list o.2 ∷ []
 
 -- digits are seen both ways: of the number, and as a number
 unfoldable pub seen : Case → List Seen
-seen (digits n x e) = bitList (bits_of n x) ∷ number (value_of e) ∷ []
-seen (bytes l e) = bitList (bits l) ∷ []
-seen (whole s e) = bitList (padded s) ∷ []
-seen (fault s len p n e) = number (fieldFault s len p n) ∷ []
-seen (writes l p x num t q m) = seenWrite (writeOf l p x num)
-seen (reads l p num t q) = seenRead (read_of l p num) ∷ []
-seen (peeks l p num t q) = seenRead (peekOf l p num) ∷ []
+seen (digits n x e) = bit_list (bits_of n x) ∷ number (value_of e) ∷ []
+seen (bytes l e) = bit_list (bits l) ∷ []
+seen (whole s e) = bit_list (padded s) ∷ []
+seen (fault s len p n e) = number (field_fault s len p n) ∷ []
+seen (writes l p x num t q m) = seen_write (write_of l p x num)
+seen (reads l p num t q) = seen_read (read_of l p num) ∷ []
+seen (peeks l p num t q) = seen_read (peek_of l p num) ∷ []
 seen (aheads l p t) = place (ahead_of l p) ∷ []
-seen (behind n t) = place (inBitsOf n) ∷ []
+seen (behind n t) = place (in_bits_of n) ∷ []
 
 unfoldable pub expected : Case → List Seen
-expected (digits n x e) = bitList e ∷ number x ∷ []
-expected (bytes l e) = bitList e ∷ []
-expected (whole s e) = bitList (bits e) ∷ []
+expected (digits n x e) = bit_list e ∷ number x ∷ []
+expected (bytes l e) = bit_list e ∷ []
+expected (whole s e) = bit_list (bits e) ∷ []
 expected (fault s len p n e) = number e ∷ []
-expected (writes l p x num t q m) = answer t q ∷ bitList (bits m) ∷ []
+expected (writes l p x num t q m) = answer t q ∷ bit_list (bits m) ∷ []
 expected (reads l p num t q) = answer t q ∷ []
 expected (peeks l p num t q) = answer t q ∷ []
 expected (aheads l p t) = place t ∷ []

@@ -5,6 +5,6 @@ use Rattle.stream.specs.declared.field.Fit.{Fit}
 use Rattle.stream.specs.declared.field.Fit.TheVariants.{Whole, Not}
 
 -- the number of what keeps a field from its place, 0 for nothing
-abbrev pub faultOf : Fit → ℕ
-faultOf Whole = 0
-faultOf (Not r) = number_of r
+abbrev pub fault_of : Fit → ℕ
+fault_of Whole = 0
+fault_of (Not r) = number_of r

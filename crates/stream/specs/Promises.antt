@@ -2,7 +2,7 @@
 use Rattle.std.specs.Prelude.{◌≡◌, Bool, false, List, [], ◌∷◌, ◌++◌, ℕ, ◌+◌, ◌*◌, ◌/◌, ◌%◌, ◌^◌, ◌≤◌, ◌<◌, length, take, drop, get_or, replicate}
 use Rattle.stream.specs.Bits.{bits_of, value_of, bits, edge, spare, field, replaced}
 use Rattle.stream.specs.Refusals.{number_of}
-use Rattle.stream.specs.Calls.{limit, Told, given, bitNumber, tellAhead, tellInBits, toldWrite, toldBit, toldByte, toldBits, width, fieldFault, writeOf, read_of}
+use Rattle.stream.specs.Calls.{limit, Told, given, bit_number, tell_ahead, tell_in_bits, told_write, told_bit, told_byte, told_bits, width, field_fault, write_of, read_of}
 use Rattle.stream.specs.declared.Bit.{Bit}
 use Rattle.stream.specs.declared.refusal.Refusal.{Refusal}
 use Rattle.stream.specs.declared.position.BitPos.{BitPos}
@@ -30,7 +30,7 @@ pub record Digits : Type 0 where
 abbrev pub AreBytes : List ℕ → Type 0
 AreBytes l = (i : ℕ) → get_or l i 0 < 256
 
--- `bytes-are-bits`: a buffer is its bits
+-- `bytes_are_bits`: a buffer is its bits
 pub record BytesAreBits : Type 0 where
   pub size : (l : List ℕ) → length (bits l) ≡ 8 * length l
   -- two buffers with the same bits are the same
@@ -39,7 +39,7 @@ pub record BytesAreBits : Type 0 where
   pub first : (k : ℕ) (l : List ℕ) → bits (take k l) ≡ take (8 * k) (bits l)
   pub rest : (k : ℕ) (l : List ℕ) → bits (drop k l) ≡ drop (8 * k) (bits l)
 
--- `write-leaves`: the bits after a write of f at p over bs
+-- `write_leaves`: the bits after a write of f at p over bs
 pub record WriteLeaves (bs : List Bool) (p : ℕ) (f : List Bool) : Type 0 where
   -- the field is read back
   pub back : field (replaced bs p f) p (length f) ≡ f
@@ -51,7 +51,7 @@ pub record WriteLeaves (bs : List Bool) (p : ℕ) (f : List Bool) : Type 0 where
   pub rest : 0 < length f → field (replaced bs p f) (p + length f) (spare (p + length f)) ≡ replicate (spare (p + length f)) false
   -- every field behind that byte is as it was
   pub after : (q m : ℕ) → edge (p + length f) ≤ q → field (replaced bs p f) q m ≡ field bs q m
-  -- `two-writes`: another write behind it, and both are one write
+  -- `two_writes`: another write behind it, and both are one write
   pub two : (g : List Bool) → replaced (replaced bs p f) (p + length f) g ≡ replaced bs p (f ++ g)
   -- a buffer of whole bytes keeps its length
   pub size : (m : ℕ) → length bs ≡ 8 * m → p + length f ≤ length bs → length (replaced bs p f) ≡ length bs
@@ -61,53 +61,53 @@ WritesLeave = (bs : List Bool) (p : ℕ) (f : List Bool) → p ≤ length bs →
 
 -- ---- the calls
 
--- `field-faults`: the refusal of n bits at p in len bytes, by the first rule that holds
+-- `field_faults`: the refusal of n bits at p in len bytes, by the first rule that holds
 pub record FieldFault (short len p n : ℕ) : Type 0 where
-  pub tooLong : limit < len → fieldFault short len p n ≡ 5
-  pub noFit : len ≤ limit → 8 * len < p → fieldFault short len p n ≡ 13
-  pub runsPast : len ≤ limit → p ≤ 8 * len → 8 * len < p + n → fieldFault short len p n ≡ short
-  pub there : len ≤ limit → p + n ≤ 8 * len → fieldFault short len p n ≡ 0
+  pub too_long : limit < len → field_fault short len p n ≡ 5
+  pub no_fit : len ≤ limit → 8 * len < p → field_fault short len p n ≡ 13
+  pub runs_past : len ≤ limit → p ≤ 8 * len → 8 * len < p + n → field_fault short len p n ≡ short
+  pub there : len ≤ limit → p + n ≤ 8 * len → field_fault short len p n ≡ 0
 
 abbrev pub FieldFaults : Type 0
 FieldFaults = (short len p n : ℕ) → FieldFault short len p n
 
--- `write-call`: after a write of the num low bits of x at p into the bytes l, which has left the bytes m
+-- `write_call`: after a write of the num low bits of x at p into the bytes l, which has left the bytes m
 pub record WriteCall (l m : List ℕ) (p x num : ℕ) : Type 0 where
   -- refused, it has changed no byte
-  pub kept : 0 < fieldFault 1 (length l) p (width num) → m ≡ l
+  pub kept : 0 < field_fault 1 (length l) p (width num) → m ≡ l
   -- so has one of no bits
   pub none : width num ≡ 0 → m ≡ l
   -- accepted, it is read back
-  pub back : fieldFault 1 (length l) p (width num) ≡ 0 → (given (x % 2 ^ width num ∷ []), p + width num) ≡ read_of m p num
+  pub back : field_fault 1 (length l) p (width num) ≡ 0 → (given (x % 2 ^ width num ∷ []), p + width num) ≡ read_of m p num
   -- and the rest of its last byte is zero
-  pub rest : fieldFault 1 (length l) p (width num) ≡ 0 → 0 < width num
+  pub rest : field_fault 1 (length l) p (width num) ≡ 0 → 0 < width num
       → field (bits m) (p + width num) (spare (p + width num)) ≡ replicate (spare (p + width num)) false
   -- what a read of a field before it answers is what it answered; so it is behind the last byte touched
   pub before : (q k : ℕ) → q + width k ≤ p → read_of m q k ≡ read_of l q k
   pub after : (q k : ℕ) → edge (p + width num) ≤ q → read_of m q k ≡ read_of l q k
   -- with another write behind it, it is one write of both numbers' bits
-  pub two : (y k : ℕ) → num + k ≤ 64 → fieldFault 1 (length l) p (num + k) ≡ 0
-      → writeOf m (p + num) y k ≡ writeOf l p (x * 2 ^ k + y % 2 ^ k) (num + k)
+  pub two : (y k : ℕ) → num + k ≤ 64 → field_fault 1 (length l) p (num + k) ≡ 0
+      → write_of m (p + num) y k ≡ write_of l p (x * 2 ^ k + y % 2 ^ k) (num + k)
 
 -- for all that meets what the call states
 abbrev pub WriteCalls : Type 0
 WriteCalls =
-    (l m : List ℕ) (p x num q : ℕ) (t : Told) → AreBytes l → AreBytes m → (t, q, bits m) ≡ writeOf l p x num → WriteCall l m p x num
+    (l m : List ℕ) (p x num q : ℕ) (t : Told) → AreBytes l → AreBytes m → (t, q, bits m) ≡ write_of l p x num → WriteCall l m p x num
 
 -- two outcomes that meet a call's statement are told alike, by its right side; what is told of an outcome says all of it
 abbrev pub Tells : (A O : Type 0) → (A → O) → Type 0
 Tells A O tell = (r s : A) → tell r ≡ tell s → r ≡ s
 
--- `one-outcome`: no two outcomes meet the statement of a call
+-- `one_outcome`: no two outcomes meet the statement of a call
 pub record OneOutcome : Type 0 where
-  pub write : (r s : Written) (m n : List ℕ) → AreBytes m → AreBytes n → toldWrite r m ≡ toldWrite s n → (r ≡ s) × (m ≡ n)
-  pub readBit : Tells BitRead (Told × ℕ) toldBit
-  pub readByte : Tells ByteRead (Told × ℕ) toldByte
-  pub readBits : Tells BitsRead (Told × ℕ) toldBits
-  pub ahead : Tells Ahead Told tellAhead
-  pub to_bits : Tells InBits Told tellInBits
+  pub write : (r s : Written) (m n : List ℕ) → AreBytes m → AreBytes n → told_write r m ≡ told_write s n → (r ≡ s) × (m ≡ n)
+  pub read_bit : Tells BitRead (Told × ℕ) told_bit
+  pub read_byte : Tells ByteRead (Told × ℕ) told_byte
+  pub read_bits : Tells BitsRead (Told × ℕ) told_bits
+  pub ahead : Tells Ahead Told tell_ahead
+  pub to_bits : Tells InBits Told tell_in_bits
   pub number : Tells Refusal ℕ number_of
-  pub bit : Tells Bit ℕ bitNumber
+  pub bit : Tells Bit ℕ bit_number
   -- a struct of one number is that number
   pub position : Tells BitPos ℕ (λ p. p.0)
   pub count : Tells ByteCount ℕ (λ n. n.0)

@@ -32,6 +32,6 @@ or_else zero s = s
 or_else (suc r) s = suc r
 
 -- by a fault: the outcome where there is none, or the one that tells it
-unfoldable pub byFault : {A : Type 0} → ℕ → A → (ℕ → A) → A
-byFault zero done refuse = done
-byFault (suc r) done refuse = refuse (suc r)
+unfoldable pub by_fault : {A : Type 0} → ℕ → A → (ℕ → A) → A
+by_fault zero done refuse = done
+by_fault (suc r) done refuse = refuse (suc r)

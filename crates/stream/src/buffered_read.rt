@@ -1,7 +1,7 @@
 // The one bit reader. It keeps a position alone; the buffer is lent to each call.
 
 ghost use Rattle.std.specs.Prelude.{◌≡◌, ◌<◌};
-ghost use Rattle.stream.specs.Calls.{bitNumber, toldBit, toldByte, toldBits, read_of, peekOf, tellAhead, ahead_of};
+ghost use Rattle.stream.specs.Calls.{bit_number, told_bit, told_byte, told_bits, read_of, peek_of, tell_ahead, ahead_of};
 
 use super::Bit;
 use super::field::{Fit, fit_of, width_of};
@@ -89,7 +89,7 @@ impl BufferedReader {
 
     // Reads one bit.
     pub fn read_bit(self, buf: &[u8]) -> BitRead
-        ensures { toldBit result ≡ read_of buf.now self.at.0 1 }
+        ensures { told_bit result ≡ read_of buf.now self.at.0 1 }
     {
         let f = self.read_bits(buf, 1);
         let reader = f.reader;
@@ -109,7 +109,7 @@ impl BufferedReader {
 
     // Reads eight bits.
     pub fn read_byte(self, buf: &[u8]) -> ByteRead
-        ensures { toldByte result ≡ read_of buf.now self.at.0 8 }
+        ensures { told_byte result ≡ read_of buf.now self.at.0 8 }
     {
         let f = self.read_bits(buf, 8);
         let reader = f.reader;
@@ -129,7 +129,7 @@ impl BufferedReader {
 
     // Reads num bits as a number, the highest first; more than 64 are 64.
     pub fn read_bits(self, buf: &[u8], num: u32) -> BitsRead
-        ensures { toldBits result ≡ read_of buf.now self.at.0 num }
+        ensures { told_bits result ≡ read_of buf.now self.at.0 num }
     {
         let p = self.at.0;
         let n = width_of(num);
@@ -155,7 +155,7 @@ impl BufferedReader {
 
     // What read_bits would answer; the reader stays. As in the Rust, the place is set again after a read.
     pub fn peak_bits(self, buf: &[u8], num: u32) -> BitsRead
-        ensures { toldBits result ≡ peekOf buf.now self.at.0 num }
+        ensures { told_bits result ≡ peek_of buf.now self.at.0 num }
     {
         let f = self.read_bits(buf, num);
         let answer = f.answer;
@@ -166,7 +166,7 @@ impl BufferedReader {
 
     // The next 64 bits at once, for whoever reads several fields out of them; near the buffer's end there is `read_bits`.
     pub fn ahead(self, buf: &[u8]) -> Ahead
-        ensures { tellAhead result ≡ ahead_of buf.now self.at.0 }
+        ensures { tell_ahead result ≡ ahead_of buf.now self.at.0 }
     {
         let p = self.at.0;
         if p / 8 + 9 <= buf.len() {
@@ -179,7 +179,7 @@ impl BufferedReader {
 // The bit that a number of one digit is.
 fn bit_of(v: u64) -> Bit
     requires { v < 2 }
-    ensures { bitNumber result ≡ v }
+    ensures { bit_number result ≡ v }
 {
     if v == 0 { Bit::Zero } else { Bit::One }
 }

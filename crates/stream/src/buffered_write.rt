@@ -1,7 +1,7 @@
 // The one bit writer. It keeps a position alone; the buffer is lent to each call.
 
 ghost use Rattle.std.specs.Prelude.{◌≡◌};
-ghost use Rattle.stream.specs.Calls.{bitNumber, toldWrite, writeOf};
+ghost use Rattle.stream.specs.Calls.{bit_number, told_write, write_of};
 
 use super::Bit;
 use super::field::{Fit, fit_of, width_of};
@@ -47,21 +47,21 @@ impl BufferedWriter {
 
     // Writes one bit.
     pub fn write_bit(self, buf: &mut [u8], bit: Bit) -> Written
-        ensures { toldWrite result buf.new ≡ writeOf buf.old self.at.0 (bitNumber bit) 1 }
+        ensures { told_write result buf.new ≡ write_of buf.old self.at.0 (bit_number bit) 1 }
     {
         self.write_bits(buf, bit.to_u64(), 1)
     }
 
     // Writes eight bits.
     pub fn write_byte(self, buf: &mut [u8], byte: u8) -> Written
-        ensures { toldWrite result buf.new ≡ writeOf buf.old self.at.0 byte 8 }
+        ensures { told_write result buf.new ≡ write_of buf.old self.at.0 byte 8 }
     {
         self.write_bits(buf, byte as u64, 8)
     }
 
     // Writes the num low bits of value, the highest of them first; more than 64 are 64.
     pub fn write_bits(self, buf: &mut [u8], value: u64, num: u32) -> Written
-        ensures { toldWrite result buf.new ≡ writeOf buf.old self.at.0 value num }
+        ensures { told_write result buf.new ≡ write_of buf.old self.at.0 value num }
     {
         let p = self.at.0;
         let n = width_of(num);

@@ -3,8 +3,8 @@
 ghost use Rattle.std.specs.Prelude.{◌≡◌, ◌+◌, ◌-◌, ◌*◌, ◌/◌, ◌%◌, ◌^◌, ◌≤◌, ◌<◌, min};
 ghost use Rattle.stream.specs.Bits.{bits_of};
 ghost use Rattle.stream.specs.Refusals.{number_of};
-ghost use Rattle.stream.specs.Calls.{width, fieldFault};
-ghost use Rattle.stream.specs.Fits.{faultOf};
+ghost use Rattle.stream.specs.Calls.{width, field_fault};
+ghost use Rattle.stream.specs.Fits.{fault_of};
 
 use super::LIMIT;
 use super::refusal::Refusal;
@@ -26,7 +26,7 @@ pub(super) fn width_of(num: u32) -> usize
 // Whether n bits at bit p fit in len bytes; short is the refusal where they run past the end.
 pub(super) fn fit_of(len: usize, p: usize, n: usize, short: Refusal) -> Fit
     requires { n ≤ 64 }
-    ensures { faultOf result ≡ fieldFault (number_of short) len p n }
+    ensures { fault_of result ≡ field_fault (number_of short) len p n }
 {
     if LIMIT < len {
         return Fit::Not(Refusal::TooLong);

@@ -1,7 +1,7 @@
 // Bits in a lent buffer, highest first: after the Rust's `stream/`, with `Bit` of its lib.rs.
 
 ghost use Rattle.std.specs.Prelude.{◌≡◌};
-ghost use Rattle.stream.specs.Calls.{bitNumber};
+ghost use Rattle.stream.specs.Calls.{bit_number};
 
 pub mod buffered_read;
 pub mod buffered_write;
@@ -29,7 +29,7 @@ pub enum Bit {
 impl Bit {
     // The bit as a number: `Zero` is 0 and `One` is 1.
     pub fn to_u64(self) -> u64
-        ensures { result ≡ bitNumber self }
+        ensures { result ≡ bit_number self }
     {
         match self {
             Bit::Zero => 0,

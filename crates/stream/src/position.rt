@@ -1,8 +1,8 @@
 // Places and sizes. A bit position and a byte count are both numbers and must not be exchanged, so each is a type of its own.
 
 ghost use Rattle.std.specs.Prelude.{◌≡◌};
-ghost use Rattle.stream.specs.Bits.{bytesFor};
-ghost use Rattle.stream.specs.Calls.{tellInBits, inBitsOf};
+ghost use Rattle.stream.specs.Bits.{bytes_for};
+ghost use Rattle.stream.specs.Calls.{tell_in_bits, in_bits_of};
 
 use super::LIMIT;
 use super::refusal::Refusal;
@@ -40,7 +40,7 @@ impl BitPos {
 
     // How many bytes hold the bits before this place.
     pub fn to_bytes(self) -> ByteCount
-        ensures { result.0 ≡ bytesFor self.0 }
+        ensures { result.0 ≡ bytes_for self.0 }
     {
         let p = self.0;
         // p + 7 may not fit a number
@@ -69,7 +69,7 @@ impl ByteCount {
 
     // The place behind this many bytes. More than a lent buffer may have are refused, so the product always fits a number.
     pub fn to_bits(self) -> InBits
-        ensures { tellInBits result ≡ inBitsOf self.0 }
+        ensures { tell_in_bits result ≡ in_bits_of self.0 }
     {
         let n = self.0;
         if LIMIT < n {

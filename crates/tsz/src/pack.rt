@@ -3,9 +3,9 @@
 ghost use Rattle.std.specs.Prelude.{◌≡◌, ◌∷◌, length};
 ghost use Rattle.stream.specs.Bits.{bits};
 ghost use Rattle.encode.specs.States.{view};
-ghost use Rattle.encode.specs.Calls.{tellEncode, tellClose};
-ghost use Rattle.encode.specs.Lists.{pairs, packsOf};
-ghost use Rattle.tsz.specs.Files.{said_of, faultIn, usedIn, closing, packedOf};
+ghost use Rattle.encode.specs.Calls.{tell_encode, tell_close};
+ghost use Rattle.encode.specs.Lists.{pairs, packs_of};
+ghost use Rattle.tsz.specs.Files.{said_of, fault_in, used_in, closing, packed_of};
 
 use super::said::{Said, said_at, say};
 use encode::std_encoder::{CloseAnswer, EncodeAnswer};
@@ -14,7 +14,7 @@ use stream::BitPos;
 
 // The refusal in an answer, 0 for none.
 fn fault(answer: EncodeAnswer) -> u64
-    ensures { result ≡ faultIn (tellEncode answer) }
+    ensures { result ≡ fault_in (tell_encode answer) }
 {
     match answer {
         EncodeAnswer::Done => 0,
@@ -24,7 +24,7 @@ fn fault(answer: EncodeAnswer) -> u64
 
 // What is said after a close; one that was opened is never refused its close.
 fn said_closed(refusal: u64, points: usize, answer: CloseAnswer) -> Said
-    ensures { said_of result ≡ refusal ∷ points ∷ usedIn (tellClose answer) }
+    ensures { said_of result ≡ refusal ∷ points ∷ used_in (tell_close answer) }
 {
     match answer {
         CloseAnswer::Used(b, n) => Said {
@@ -44,7 +44,7 @@ fn said_closed(refusal: u64, points: usize, answer: CloseAnswer) -> Said
 
 // Offers the points to an encoder until one is refused, and closes it.
 fn pack_and_close(encoder: StdEncoder, times: &[u64], values: &[u64], out: &mut [u8]) -> Said
-    ensures { (said_of result, bits out.new) ≡ closing 6 (length out.old) (packsOf 6 (view encoder) (length out.old) (bits out.old) (pairs times.now values.now)) }
+    ensures { (said_of result, bits out.new) ≡ closing 6 (length out.old) (packs_of 6 (view encoder) (length out.old) (bits out.old) (pairs times.now values.now)) }
 {
     let packed = pack_some(encoder, out, times, values);
     let last = packed.encoder;
@@ -57,7 +57,7 @@ fn pack_and_close(encoder: StdEncoder, times: &[u64], values: &[u64], out: &mut 
 
 // Opens, packs and closes.
 fn pack(start: u64, times: &[u64], values: &[u64], out: &mut [u8]) -> Said
-    ensures { (said_of result, bits out.new) ≡ packedOf 6 start (length out.old) (bits out.old) (pairs times.now values.now) }
+    ensures { (said_of result, bits out.new) ≡ packed_of 6 start (length out.old) (bits out.old) (pairs times.now values.now) }
 {
     let opened = StdEncoder::open(start, out);
     let answer = opened.answer;
@@ -80,7 +80,7 @@ pub extern "C" fn tsz_pack(
     out: &mut [u8],
     said: &mut [u64; 4],
 )
-    ensures { (said.new, bits out.new) ≡ packedOf 6 start (length out.old) (bits out.old) (pairs times.now values.now) }
+    ensures { (said.new, bits out.new) ≡ packed_of 6 start (length out.old) (bits out.old) (pairs times.now values.now) }
 {
     let s = pack(start, times, values, out);
     say(said, s);

@@ -4,8 +4,8 @@ ghost use Rattle.std.specs.Prelude.{◌≡◌, ℕ, length};
 ghost use Rattle.stream.specs.Bits.{bits};
 ghost use Rattle.decode.specs.States.{tell, view};
 ghost use Rattle.decode.specs.Calls.{next_of};
-ghost use Rattle.decode.specs.Lists.{tellStop};
-ghost use Rattle.tsz.specs.Files.{said_of, sayingAt, answerBehind, unpackedOf};
+ghost use Rattle.decode.specs.Lists.{tell_stop};
+ghost use Rattle.tsz.specs.Files.{said_of, saying_at, answer_behind, unpacked_of};
 
 use super::said::{Said, said_at, say};
 use decode::std_decoder::Step;
@@ -17,7 +17,7 @@ use stream::BitPos;
 // The next answer; where that is a point, some point stands for it. It is asked for by the call over lists once more: with a second place that calls a step,
 // the compiler would no longer build the step into that call's loop.
 fn one_more(decoder: StdDecoder, src: &[u8]) -> Step
-    ensures { (k q : ℕ) → sayingAt k q (tell result) ≡ sayingAt k q (next_of 6 (view decoder) (length src.now) (bits src.now)).0 }
+    ensures { (k q : ℕ) → saying_at k q (tell result) ≡ saying_at k q (next_of 6 (view decoder) (length src.now) (bits src.now)).0 }
 {
     let mut times = [0u64; 1];
     let mut values = [0u64; 1];
@@ -31,7 +31,7 @@ fn one_more(decoder: StdDecoder, src: &[u8]) -> Step
 
 // The answer behind the points given; where the lists are full, one step more is asked.
 fn answer_behind(answer: UnpackAnswer, decoder: StdDecoder, src: &[u8]) -> Step
-    ensures { (k q : ℕ) → sayingAt k q (tell result) ≡ sayingAt k q (answerBehind 6 (tellStop answer) (view decoder) (length src.now) (bits src.now)) }
+    ensures { (k q : ℕ) → saying_at k q (tell result) ≡ saying_at k q (answer_behind 6 (tell_stop answer) (view decoder) (length src.now) (bits src.now)) }
 {
     match answer {
         UnpackAnswer::Stopped(step) => step,
@@ -41,7 +41,7 @@ fn answer_behind(answer: UnpackAnswer, decoder: StdDecoder, src: &[u8]) -> Step
 
 // What is said of points and the answer behind them.
 fn said_behind(points: usize, at: BitPos, answer: Step) -> Said
-    ensures { said_of result ≡ sayingAt points at.0 (tell answer) }
+    ensures { said_of result ≡ saying_at points at.0 (tell answer) }
 {
     match answer {
         Step::End(end) => said_at(0, points, end),
@@ -56,7 +56,7 @@ fn said_behind(points: usize, at: BitPos, answer: Step) -> Said
 // Unpacks a stream into the first entries of two lists, as many as the shorter has; the other entries stay.
 #[unsafe(no_mangle)]
 pub extern "C" fn tsz_unpack(src: &[u8], times: &mut [u64], values: &mut [u64], said: &mut [u64; 4])
-    ensures { (said.new, times.new, values.new) ≡ unpackedOf 6 (length src.now) (bits src.now) times.old values.old }
+    ensures { (said.new, times.new, values.new) ≡ unpacked_of 6 (length src.now) (bits src.now) times.old values.old }
 {
     let opened = StdDecoder::open(src);
     let first = opened.decoder;

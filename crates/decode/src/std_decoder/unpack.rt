@@ -4,9 +4,9 @@
 ghost use Rattle.std.specs.Prelude.{◌≡◌, ◌-◌, ◌<◌, ◌≤◌, true, false, length, slice_set};
 ghost use Rattle.stream.specs.Bits.{bits};
 ghost use Rattle.decode.specs.States.{tell, still, view};
-ghost use Rattle.decode.specs.Calls.{noFit, next_of};
-ghost use Rattle.decode.specs.Lists.{toldUnpacked, unpacksOf, fillsOf};
-ghost use Rattle.decode.specs.Filling.{toldStopped, stoppedOf, fillingFrom};
+ghost use Rattle.decode.specs.Calls.{no_fit, next_of};
+ghost use Rattle.decode.specs.Lists.{told_unpacked, unpacks_of, fills_of};
+ghost use Rattle.decode.specs.Filling.{told_stopped, stopped_of, filling_from};
 
 use super::super::field::bare;
 use super::super::found::{Found, Kept, read_later, read_start};
@@ -30,7 +30,7 @@ pub struct Unpacked {
 
 // The points before an answer that ends the decoder.
 fn stopped(given: usize, d: StdDecoder, answer: Step) -> Unpacked
-    ensures { toldStopped result ≡ stoppedOf given (view d) (tell answer) }
+    ensures { told_stopped result ≡ stopped_of given (view d) (tell answer) }
 {
     let next = stop(d, answer);
     let decoder = next.decoder;
@@ -51,9 +51,9 @@ fn unpack_later(
     n: usize,
 ) -> Unpacked
     requires from_le_n { (from ≤ n) × (n ≤ length times.old) × (n ≤ length values.old) }
-    requires buf_value { noFit 6 (view d) (length buf.now) ≡ false }
+    requires buf_value { no_fit 6 (view d) (length buf.now) ≡ false }
     requires d_value { ((view d).first ≡ false) × ((view d).ended ≡ still) }
-    ensures { toldUnpacked result times.new values.new ≡ fillingFrom from times.old values.old (unpacksOf 6 (n - from) (view d) (length buf.now) (bits buf.now)) }
+    ensures { told_unpacked result times.new values.new ≡ filling_from from times.old values.old (unpacks_of 6 (n - from) (view d) (length buf.now) (bits buf.now)) }
 {
     let len = d.len;
     let mut k = Kept {
@@ -109,9 +109,9 @@ fn unpack_first(
     n: usize,
 ) -> Unpacked
     requires n_nonzero { (0 < n) × (n ≤ length times.old) × (n ≤ length values.old) }
-    requires buf_value { noFit 6 (view d) (length buf.now) ≡ false }
+    requires buf_value { no_fit 6 (view d) (length buf.now) ≡ false }
     requires d_value { ((view d).first ≡ true) × ((view d).ended ≡ still) }
-    ensures { toldUnpacked result times.new values.new ≡ fillingFrom 0 times.old values.old (unpacksOf 6 n (view d) (length buf.now) (bits buf.now)) }
+    ensures { told_unpacked result times.new values.new ≡ filling_from 0 times.old values.old (unpacks_of 6 n (view d) (length buf.now) (bits buf.now)) }
 {
     let found = read_start(d.r, buf, d.leading_zeroes, d.trailing_zeroes);
     let next = take(d, found);
@@ -144,7 +144,7 @@ fn unpack_ended(
 ) -> Unpacked
     requires n_nonzero { (0 < n) × (n ≤ length times.old) × (n ≤ length values.old) }
     requires d_value { (tell answer, view d) ≡ next_of 6 (view d) (length buf.now) (bits buf.now) }
-    ensures { toldUnpacked result times.new values.new ≡ fillingFrom 0 times.old values.old (unpacksOf 6 n (view d) (length buf.now) (bits buf.now)) }
+    ensures { told_unpacked result times.new values.new ≡ filling_from 0 times.old values.old (unpacks_of 6 n (view d) (length buf.now) (bits buf.now)) }
 {
     let mut i: usize = 0;
     while i < n {
@@ -178,7 +178,7 @@ pub fn unpack_some(
     times: &mut [u64],
     values: &mut [u64],
 ) -> Unpacked
-    ensures { toldUnpacked result times.new values.new ≡ fillsOf 6 (view decoder) (length buf.now) (bits buf.now) times.old values.old }
+    ensures { told_unpacked result times.new values.new ≡ fills_of 6 (view decoder) (length buf.now) (bits buf.now) times.old values.old }
 {
     let n = points_in(times, values);
     if n == 0 {

@@ -1,5 +1,5 @@
 use Rattle.std.proofs.Common.{refl, arith, rules}
-use Rattle.decode.proofs.Fields.{got-known, place-fits, known-inside}
+use Rattle.decode.proofs.Fields.{got_known, place_fits, known_inside}
 use Rattle.decode.proofs.field.get.Statement.{statement}
 use Rattle.decode.proofs.field.get.Tie as tie
 
@@ -13,7 +13,7 @@ shl-t9 : tie.Need-overflow-shl-t9
 shl-t9 c = search rules
 
 further-requires : tie.Need-further-requires
-further-requires c κs = place-fits _ _ _ (known-inside _ _ _ _ c.before.before.before.before.before.before.requires.1.1) (search rules) (omega arith)
+further-requires c κs = place_fits _ _ _ (known_inside _ _ _ _ c.before.before.before.before.before.before.requires.1.1) (search rules) (omega arith)
 
 sub-t12 : tie.Need-overflow-sub-t12
 sub-t12 c = search rules
@@ -25,7 +25,7 @@ shr-t9 : tie.Need-overflow-shr-t9
 shr-t9 c = search rules
 
 returns-2 : tie.Need-returns-2
-returns-2 c = got-known _ _ _ _ _ _ c.before.before.before.before.before.before.before.before.requires.1.1 (omega arith) c.before.further.ensures refl refl
+returns-2 c = got_known _ _ _ _ _ _ c.before.before.before.before.before.before.before.before.requires.1.1 (omega arith) c.before.further.ensures refl refl
 
 pub get_spec : {M : Type 1} → statement M
 get_spec =

@@ -1,5 +1,5 @@
 use Rattle.std.proofs.Common.{◌∙◌, arith, rules}
-use Rattle.decode.proofs.Fields.{got-digits, place-fits}
+use Rattle.decode.proofs.Fields.{got_digits, place_fits}
 use Rattle.decode.proofs.field.get_digits.Statement.{statement}
 use Rattle.decode.proofs.field.get_digits.Tie as tie
 
@@ -13,7 +13,7 @@ returns : tie.Need-returns
 returns c = search rules
 
 further-requires : tie.Need-further-requires
-further-requires c κs = place-fits _ _ _ c.before.before.before.before.requires.1.1 (search rules) (omega arith)
+further-requires c κs = place_fits _ _ _ c.before.before.before.before.requires.1.1 (search rules) (omega arith)
 
 bare-requires : tie.Need-bare-requires
 bare-requires c κs = search rules
@@ -31,7 +31,7 @@ returns-2 : tie.Need-returns-2
 returns-2 c =
     let p = c.before.before.before.before.before.peek.ensures in
     let b = c.before.bare.ensures in
-    got-digits _ _ _ _ _ _ (rw p.0 at p.1) (omega arith) (b.0 ∙ c.before.before.further.ensures) b.1 b.2
+    got_digits _ _ _ _ _ _ (rw p.0 at p.1) (omega arith) (b.0 ∙ c.before.before.further.ensures) b.1 b.2
 
 pub get-digits-spec : {M : Type 1} → statement M
 get-digits-spec =

@@ -1,5 +1,5 @@
 use Rattle.std.proofs.Common.{refl, arith, rules}
-use Rattle.decode.proofs.Peeks.{none-known, word-known}
+use Rattle.decode.proofs.Peeks.{none_known, word_known}
 use Rattle.decode.proofs.field.peek.Statement.{statement}
 use Rattle.decode.proofs.field.peek.Tie as tie
 
@@ -16,10 +16,10 @@ enum-known-w : tie.Need-enum-known-w
 enum-known-w c = search rules
 
 returns : tie.Need-returns
-returns c = let b = c.bare.ensures in (b.0, none-known _ _ b.1 b.2 (omega (arith, b.0)))
+returns c = let b = c.bare.ensures in (b.0, none_known _ _ b.1 b.2 (omega (arith, b.0)))
 
 returns-2 : tie.Need-returns-2
-returns-2 c = (refl, word-known _ _ _ _ c.before.before.before.ahead.ensures c.before.w.given.1)
+returns-2 c = (refl, word_known _ _ _ _ c.before.before.before.ahead.ensures c.before.w.given.1)
 
 pub peek_spec : {M : Type 1} → statement M
 peek_spec =

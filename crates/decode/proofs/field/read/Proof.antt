@@ -1,5 +1,5 @@
 use Rattle.std.proofs.Common.{rules}
-use Rattle.decode.proofs.Fields.{got-whole, got-short}
+use Rattle.decode.proofs.Fields.{got_whole, got_short}
 use Rattle.decode.proofs.field.read.Statement.{statement}
 use Rattle.decode.proofs.field.read.Tie as tie
 
@@ -16,10 +16,10 @@ bare-requires : tie.Need-bare-requires
 bare-requires c κs = search rules
 
 returns : tie.Need-returns
-returns c = got-short _ _ _ (search rules) (search rules) _ _ c.before.before.before.read-bits.ensures _ c.enum_told.given.1
+returns c = got_short _ _ _ (search rules) (search rules) _ _ c.before.before.before.read-bits.ensures _ c.enum_told.given.1
 
 returns-2 : tie.Need-returns-2
-returns-2 c = got-whole _ _ _ (search rules) (search rules) _ _ c.before.before.before.before.before.read-bits.ensures _ c.before.before.got.given.1 _ c.bare.ensures
+returns-2 c = got_whole _ _ _ (search rules) (search rules) _ _ c.before.before.before.before.before.read-bits.ensures _ c.before.before.got.given.1 _ c.bare.ensures
 
 pub read_spec : {M : Type 1} → statement M
 read_spec = tie.close (tie.spec read-bits-requires enum_told enum-known-got bare-requires returns returns-2)

@@ -1,6 +1,6 @@
 use Rattle.std.proofs.Common.{◌∙◌, rules}
-use Rattle.decode.specs.Parts.{foundOf}
-use Rattle.decode.proofs.Fields.{by-short, by_whole, done-point}
+use Rattle.decode.specs.Parts.{found_of}
+use Rattle.decode.proofs.Fields.{by_short, by_whole, done_point}
 use Rattle.decode.proofs.found.read_first_value.Statement.{statement}
 use Rattle.decode.proofs.found.read_first_value.Tie as tie
 
@@ -14,12 +14,12 @@ enum-known-v : tie.Need-enum-known-v
 enum-known-v c = search rules
 
 returns : tie.Need-returns
-unfolding foundOf
-returns c = by-short _ _ _ _ _ _ c.before.before.read.ensures c.enum_told.given.1
+unfolding found_of
+returns c = by_short _ _ _ _ _ _ c.before.before.read.ensures c.enum_told.given.1
 
 returns-2 : tie.Need-returns-2
-unfolding foundOf
-returns-2 c = done-point _ _ _ ∙ by_whole _ _ _ _ _ _ c.before.before.before.read.ensures _ _ c.before.v.given.1
+unfolding found_of
+returns-2 c = done_point _ _ _ ∙ by_whole _ _ _ _ _ _ c.before.before.before.read.ensures _ _ c.before.v.given.1
 
 pub read-first-value-spec : {M : Type 1} → statement M
 read-first-value-spec = tie.close (tie.spec read-requires enum_told enum-known-v returns returns-2)

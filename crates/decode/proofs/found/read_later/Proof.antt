@@ -1,7 +1,7 @@
 use Rattle.std.proofs.Common.{◌∙◌, rules}
-use Rattle.layout.specs.Reading.{readLater}
-use Rattle.decode.specs.Parts.{thenDod, foundOf, Carried}
-use Rattle.decode.proofs.Steps.{at_place, dod-case, width_of}
+use Rattle.layout.specs.Reading.{read_later}
+use Rattle.decode.specs.Parts.{then_dod, found_of, Carried}
+use Rattle.decode.proofs.Steps.{at_place, dod_case, width_of}
 use Rattle.decode.proofs.found.read_later.Statement.{statement}
 use Rattle.decode.proofs.found.read_later.Tie as tie
 
@@ -26,24 +26,24 @@ read-later-time-requires c κs =
     ((k.0, k.1, k.2), (search rules, (search rules, k.3)))
 
 returns : tie.Need-returns
-unfolding foundOf thenDod readLater Carried
+unfolding found_of then_dod read_later Carried
 returns c = (
-  dod-case _ _ _ _ _ c.before.why.given.1 (c.before.before.before.read-dod.ensures.0 _) ∙ at_place _ _ _ c.before.before.before.before.refilled.ensures.0 _,
+  dod_case _ _ _ _ _ c.before.why.given.1 (c.before.before.before.read-dod.ensures.0 _) ∙ at_place _ _ _ c.before.before.before.before.refilled.ensures.0 _,
   tt,
 )
 
 returns-2 : tie.Need-returns-2
-unfolding foundOf thenDod readLater Carried
+unfolding found_of then_dod read_later Carried
 returns-2 c = (
-  dod-case _ _ _ _ _ c.before.rest.given.1 (c.before.before.before.read-dod.ensures.0 _) ∙ at_place _ _ _ c.before.before.before.before.refilled.ensures.0 _,
+  dod_case _ _ _ _ _ c.before.rest.given.1 (c.before.before.before.read-dod.ensures.0 _) ∙ at_place _ _ _ c.before.before.before.before.refilled.ensures.0 _,
   tt,
 )
 
 returns-3 : tie.Need-returns-3
-unfolding thenDod readLater
+unfolding then_dod read_later
 returns-3 c = (
   c.read-later-time.ensures.0
-      ∙ dod-case _ _ _ _ _ c.before.before.x.given.1 (c.before.before.before.before.read-dod.ensures.0 _)
+      ∙ dod_case _ _ _ _ _ c.before.before.x.given.1 (c.before.before.before.before.read-dod.ensures.0 _)
       ∙ at_place _ _ _ c.before.before.before.before.before.refilled.ensures.0 _,
   c.read-later-time.ensures.1,
 )

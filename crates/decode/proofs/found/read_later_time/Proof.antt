@@ -1,7 +1,7 @@
 use Rattle.std.proofs.Common.{◌∙◌, rules}
-use Rattle.layout.specs.Reading.{afterDod}
-use Rattle.decode.specs.Parts.{thenTime, foundOf, Carried}
-use Rattle.decode.proofs.Steps.{time-case}
+use Rattle.layout.specs.Reading.{after_dod}
+use Rattle.decode.specs.Parts.{then_time, found_of, Carried}
+use Rattle.decode.proofs.Steps.{time_case}
 use Rattle.decode.proofs.found.read_later_time.Statement.{statement}
 use Rattle.decode.proofs.found.read_later_time.Tie as tie
 
@@ -18,13 +18,13 @@ read-later-value-requires : tie.Need-read-later-value-requires
 read-later-value-requires c κs = search rules
 
 returns : tie.Need-returns
-unfolding foundOf thenTime afterDod Carried
-returns c = (time-case _ _ _ _ _ _ c.before.why.given.1 (c.before.before.before.new-time.ensures _ _ _), tt)
+unfolding found_of then_time after_dod Carried
+returns c = (time_case _ _ _ _ _ _ c.before.why.given.1 (c.before.before.before.new-time.ensures _ _ _), tt)
 
 returns-2 : tie.Need-returns-2
-unfolding thenTime afterDod
+unfolding then_time after_dod
 returns-2 c = (
-  c.read-later-value.ensures.0 ∙ time-case _ _ _ _ _ _ c.before.before.t.given.1 (c.before.before.before.before.new-time.ensures _ _ _),
+  c.read-later-value.ensures.0 ∙ time_case _ _ _ _ _ _ c.before.before.t.given.1 (c.before.before.before.before.new-time.ensures _ _ _),
   c.read-later-value.ensures.1,
 )
 

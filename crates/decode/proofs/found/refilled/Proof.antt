@@ -1,5 +1,5 @@
 use Rattle.std.proofs.Common.{rules}
-use Rattle.decode.proofs.Fields.{known-inside}
+use Rattle.decode.proofs.Fields.{known_inside}
 use Rattle.decode.proofs.found.refilled.Statement.{statement}
 use Rattle.decode.proofs.found.refilled.Tie as tie
 
@@ -7,7 +7,7 @@ returns : tie.Need-returns
 returns c = search rules
 
 peek-requires : tie.Need-peek-requires
-peek-requires c κs = known-inside _ _ _ _ c.before.before.before.requires
+peek-requires c κs = known_inside _ _ _ _ c.before.before.before.requires
 
 returns-2 : tie.Need-returns-2
 returns-2 c = search rules

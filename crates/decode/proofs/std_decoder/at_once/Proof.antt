@@ -1,7 +1,7 @@
 use Rattle.std.proofs.Common.{sym, ap, ◌∙◌, rules}
-use Rattle.decode.specs.States.{endingOf}
+use Rattle.decode.specs.States.{ending_of}
 use Rattle.decode.specs.Parts.{AtOnce}
-use Rattle.decode.proofs.CallLaws.{every-state}
+use Rattle.decode.proofs.CallLaws.{every_state}
 use Rattle.decode.proofs.std_decoder.at_once.Statement.{statement}
 use Rattle.decode.proofs.std_decoder.at_once.Tie as tie
 
@@ -16,15 +16,15 @@ no-fit-requires c κs = search rules
 
 returns : tie.Need-returns
 unfolding AtOnce
-returns c bs = sym ((every-state 6 _ _ _).thirteen (ap endingOf c.before.before.enum_told.given.1) (sym c.before.no-fit.ensures ∙ c.if1.true))
+returns c bs = sym ((every_state 6 _ _ _).thirteen (ap ending_of c.before.before.enum_told.given.1) (sym c.before.no-fit.ensures ∙ c.if1.true))
 
 returns-2 : tie.Need-returns-2
 unfolding AtOnce
-returns-2 c bs = sym ((every-state 6 _ _ _).repeats _ (ap endingOf c.before.phase.given.1))
+returns-2 c bs = sym ((every_state 6 _ _ _).repeats _ (ap ending_of c.before.phase.given.1))
 
 returns-3 : tie.Need-returns-3
 unfolding AtOnce
-returns-3 c = (ap endingOf c.before.before.enum_told.given.1, sym c.before.no-fit.ensures ∙ c.if1.false)
+returns-3 c = (ap ending_of c.before.before.enum_told.given.1, sym c.before.no-fit.ensures ∙ c.if1.false)
 
 pub at-once-spec : {M : Type 1} → statement M
 at-once-spec =

@@ -18,16 +18,16 @@ at_of : (c : tie.After-get2) → c.get2.result ≡ c.before.before.before.args.d
 at_of c = c.get2.ensures ∙ ap (λ (p : BitPos). p.0) c.before.position.ensures
 
 returns : tie.Need-returns
-returns c = sym ((misfits 6 _ _).otherLength (omega arith))
+returns c = sym ((misfits 6 _ _).other_length (omega arith))
 
 returns-2 : tie.Need-returns-2
-returns-2 c = sym ((misfits 6 _ _).tooLong (omega arith) (omega arith))
+returns-2 c = sym ((misfits 6 _ _).too_long (omega arith) (omega arith))
 
 mul-if3 : tie.Need-overflow-mul-if3
 mul-if3 c = search rules
 
 returns-3 : tie.Need-returns-3
-returns-3 c = sym ((misfits 6 _ _).tooLate (omega arith) (omega arith) (omega (arith, at_of c.before.before.before)))
+returns-3 c = sym ((misfits 6 _ _).too_late (omega arith) (omega arith) (omega (arith, at_of c.before.before.before)))
 
 no-digit-requires : tie.Need-no-digit-requires
 no-digit-requires c κs = search rules

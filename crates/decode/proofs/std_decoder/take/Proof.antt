@@ -1,6 +1,6 @@
 use Rattle.std.proofs.Common.{refl, rules}
 use Rattle.layout.specs.Answers.{answer_of}
-use Rattle.decode.specs.Parts.{foundOf}
+use Rattle.decode.specs.Parts.{found_of}
 use Rattle.decode.specs.Calls.{stepped}
 use Rattle.decode.proofs.std_decoder.take.Statement.{statement}
 use Rattle.decode.proofs.std_decoder.take.Tie as tie
@@ -30,15 +30,15 @@ behind-requires : tie.Need-behind-requires
 behind-requires c κs = search rules
 
 returns : tie.Need-returns
-unfolding stepped foundOf answer_of
+unfolding stepped found_of answer_of
 returns c = rw c.before.before.f.given.1 c.stop.ensures
 
 returns-2 : tie.Need-returns-2
-unfolding stepped foundOf answer_of
+unfolding stepped found_of answer_of
 returns-2 c = rw c.before.before.before.f2.given.1 (rw c.before.position.ensures at c.stop2.ensures)
 
 returns-3 : tie.Need-returns-3
-unfolding stepped foundOf answer_of
+unfolding stepped found_of answer_of
 returns-3 c = rw (c.before.before.before.f3.given.1, c.before.position2.ensures, c.behind.ensures) refl
 
 pub take_spec : {M : Type 1} → statement M

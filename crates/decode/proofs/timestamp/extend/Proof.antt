@@ -1,5 +1,5 @@
 use Rattle.std.proofs.Common.{arith, rules}
-use Rattle.decode.proofs.Times.{extend-below, extend-above}
+use Rattle.decode.proofs.Times.{extend_below, extend_above}
 use Rattle.decode.proofs.timestamp.extend.Statement.{statement}
 use Rattle.decode.proofs.timestamp.extend.Tie as tie
 
@@ -13,7 +13,7 @@ shl-half : tie.Need-overflow-shl-half
 shl-half c = search rules
 
 returns : tie.Need-returns
-returns c = extend-above _ _ (search rules) (search rules) (search rules) (omega arith)
+returns c = extend_above _ _ (search rules) (search rules) (search rules) (omega arith)
 
 shl-all : tie.Need-overflow-shl-all
 shl-all c = search rules
@@ -22,7 +22,7 @@ wrapping-sub-u64-requires : tie.Need-wrapping-sub-u64-requires
 wrapping-sub-u64-requires c κs = search rules
 
 returns-2 : tie.Need-returns-2
-returns-2 c = extend-below _ _ (search rules) (search rules) (search rules) _ (search rules) (omega arith) c.wrapping-sub-u64.ensures
+returns-2 c = extend_below _ _ (search rules) (search rules) (search rules) _ (search rules) (omega arith) c.wrapping-sub-u64.ensures
 
 pub extend-spec : {M : Type 1} → statement M
 extend-spec =

@@ -1,8 +1,8 @@
 use Rattle.stream.proofs.Taking.{one_shl}
 use Rattle.std.proofs.Common.{◌≡◌, pos, ◌+ℤ◌, ⊎_elim, arith, rules}
 use Rattle.layout.specs.Rows.{signed}
-use Rattle.decode.specs.Parts.{thenTime}
-use Rattle.decode.proofs.Times.{sum-falls, sum-above, wraps-below, wraps-above, time-falls, time-passes, time-got}
+use Rattle.decode.specs.Parts.{then_time}
+use Rattle.decode.proofs.Times.{sum_falls, sum_above, wraps_below, wraps_above, time_falls, time_passes, time_got}
 use Rattle.decode.proofs.timestamp.new_time.Statement.{statement}
 use Rattle.decode.proofs.timestamp.new_time.Tie as tie
 
@@ -11,8 +11,8 @@ true-sum : (c : tie.After-wrapping-add-u64)
     → pos c.before.before.before.args.delta +ℤ signed c.before.before.before.args.n c.before.before.before.args.raw ≡ pos c.wrapping-add-u64.result
 true-sum c =
     ⊎_elim
-    (λ w. wraps-below _ _ (search rules) (search rules) (search rules) _ _ _ (search rules) c.before.before.extend.ensures c.wrapping-add-u64.ensures (omega arith) (omega arith))
-    (λ w. wraps-above _ _ (search rules) (search rules) (search rules) _ _ _ (search rules) c.before.before.extend.ensures c.wrapping-add-u64.ensures (omega arith) (omega arith))
+    (λ w. wraps_below _ _ (search rules) (search rules) (search rules) _ _ _ (search rules) c.before.before.extend.ensures c.wrapping-add-u64.ensures (omega arith) (omega arith))
+    (λ w. wraps_above _ _ (search rules) (search rules) (search rules) _ _ _ (search rules) c.before.before.extend.ensures c.wrapping-add-u64.ensures (omega arith) (omega arith))
     c.before.if1.branch
 
 extend-requires : tie.Need-extend-requires
@@ -34,19 +34,19 @@ sub-if2 : tie.Need-overflow-sub-if2
 sub-if2 c = omega (arith, one_shl c.before.before.args.n 64 (omega arith))
 
 returns : tie.Need-returns
-unfolding thenTime
+unfolding then_time
 returns c q s f =
     let a = c.before.before.before.args in
-    time-falls a.time q s f _ (sum-falls a.n a.raw (search rules) (search rules) (search rules) a.delta (omega arith) (omega arith))
+    time_falls a.time q s f _ (sum_falls a.n a.raw (search rules) (search rules) (search rules) a.delta (omega arith) (omega arith))
 
 sub-if3 : tie.Need-overflow-sub-if3
 sub-if3 c = search rules
 
 returns-2 : tie.Need-returns-2
-unfolding thenTime
+unfolding then_time
 returns-2 c q s f =
     let a = c.before.before.before.args in
-    time-passes a.time q s f _ _ (sum-above a.n a.raw (search rules) (search rules) (search rules) a.delta (omega arith)) (omega arith)
+    time_passes a.time q s f _ _ (sum_above a.n a.raw (search rules) (search rules) (search rules) a.delta (omega arith)) (omega arith)
 
 wrapping-add-u64-requires : tie.Need-wrapping-add-u64-requires
 wrapping-add-u64-requires c κs = search rules
@@ -55,15 +55,15 @@ sub-if4 : tie.Need-overflow-sub-if4
 sub-if4 c = search rules
 
 returns-3 : tie.Need-returns-3
-unfolding thenTime
-returns-3 c q s f = time-passes c.before.before.before.before.args.time q s f _ _ (true-sum c.before) (omega arith)
+unfolding then_time
+returns-3 c q s f = time_passes c.before.before.before.before.args.time q s f _ _ (true-sum c.before) (omega arith)
 
 add-now : tie.Need-overflow-add-now
 add-now c = search rules
 
 returns-4 : tie.Need-returns-4
-unfolding thenTime
-returns-4 c q s f = time-got _ q s f _ _ (true-sum c.before) (omega arith)
+unfolding then_time
+returns-4 c q s f = time_got _ q s f _ _ (true-sum c.before) (omega arith)
 
 pub new-time-spec : {M : Type 1} → statement M
 new-time-spec =

@@ -1,8 +1,8 @@
 use Rattle.std.proofs.Common.{◌∙◌, arith, lit<, lit≤, rules}
-use Rattle.layout.specs.Reading.{readDod}
+use Rattle.layout.specs.Reading.{read_dod}
 use Rattle.layout.specs.Rows.{signed}
-use Rattle.decode.specs.Parts.{thenDod, InWidth}
-use Rattle.decode.proofs.Fields.{by-short, by_zero, by-other, whole-holds}
+use Rattle.decode.specs.Parts.{then_dod, InWidth}
+use Rattle.decode.proofs.Fields.{by_short, by_zero, by_other, whole_holds}
 use Rattle.decode.proofs.timestamp.read_dod.Statement.{statement}
 use Rattle.decode.proofs.timestamp.read_dod.Tie as tie
 
@@ -16,20 +16,20 @@ enum_told : tie.Need-enum-told
 enum_told c = search rules
 
 returns : tie.Need-returns
-unfolding thenDod InWidth readDod
-returns c = (λ f. by-short _ _ _ _ _ _ c.before.before.get.ensures c.enum_told.given.1, tt)
+unfolding then_dod InWidth read_dod
+returns c = (λ f. by_short _ _ _ _ _ _ c.before.before.get.ensures c.enum_told.given.1, tt)
 
 returns-2 : tie.Need-returns-2
-unfolding thenDod InWidth readDod signed
-returns-2 c = (λ f. by_zero _ _ _ _ _ _ _ c.before.before.before.before.get.ensures _ _ c.before.before.bit.given.1 (omega arith), (lit≤ tt, lit≤ tt, lit< tt, whole-holds _ _ _ _ c.before.before.before.before.get.ensures _ _ c.before.before.bit.given.1))
+unfolding then_dod InWidth read_dod signed
+returns-2 c = (λ f. by_zero _ _ _ _ _ _ _ c.before.before.before.before.get.ensures _ _ c.before.before.bit.given.1 (omega arith), (lit≤ tt, lit≤ tt, lit< tt, whole_holds _ _ _ _ c.before.before.before.before.get.ensures _ _ c.before.before.bit.given.1))
 
 read-row-requires : tie.Need-read-row-requires
-read-row-requires c κs = (search rules, whole-holds _ _ _ _ c.before.before.before.before.get.ensures _ _ c.before.before.bit.given.1)
+read-row-requires c κs = (search rules, whole_holds _ _ _ _ c.before.before.before.before.get.ensures _ _ c.before.before.bit.given.1)
 
 returns-3 : tie.Need-returns-3
-unfolding readDod
+unfolding read_dod
 returns-3 c = (
-  λ f. c.read-row.ensures.0 f ∙ by-other _ _ _ _ _ _ _ c.before.before.before.before.before.get.ensures _ _ c.before.before.before.bit.given.1 (omega arith),
+  λ f. c.read-row.ensures.0 f ∙ by_other _ _ _ _ _ _ _ c.before.before.before.before.before.get.ensures _ _ c.before.before.before.bit.given.1 (omega arith),
   c.read-row.ensures.1,
 )
 

@@ -1,8 +1,8 @@
 use Rattle.std.proofs.Common.{◌-◌, ◌≤◌, ◌∙◌, arith, rules}
 use Rattle.stream.specs.Bits.{bits}
-use Rattle.decode.specs.Parts.{place, Holds, thenDod, InWidth}
-use Rattle.decode.proofs.Dods.{row-width, RowsLeft, rows-first, rows_short, rows-here, rows_next, rows_last}
-use Rattle.decode.proofs.Fields.{whole-holds}
+use Rattle.decode.specs.Parts.{place, Holds, then_dod, InWidth}
+use Rattle.decode.proofs.Dods.{row_width, RowsLeft, rows_first, rows_short, rows_here, rows_next, rows_last}
+use Rattle.decode.proofs.Fields.{whole_holds}
 use Rattle.decode.proofs.timestamp.read_row.Statement.{statement}
 use Rattle.decode.proofs.timestamp.read_row.Tie as tie
 
@@ -13,7 +13,7 @@ abbrev decreases-loop : tie.decreases-loop
 decreases-loop buf i₀ behind₀ i behind = 3 - i
 
 loop-holds : tie.Need-loop-init invariant-loop decreases-loop
-loop-holds c = (search rules, rows-first _ _, search rules)
+loop-holds c = (search rules, rows_first _ _, search rules)
 
 get-requires : tie.Need-get-requires invariant-loop decreases-loop
 get-requires c κs = search rules
@@ -25,7 +25,7 @@ enum_told : tie.Need-enum-told invariant-loop decreases-loop
 enum_told c = search rules
 
 returns : tie.Need-returns invariant-loop decreases-loop
-unfolding thenDod InWidth
+unfolding then_dod InWidth
 returns c =
     let loop = c.before.before.before.before.loop in
     (rows_short _ _ loop.i _ loop.invariant.1 (omega arith) _ c.before.before.get.ensures c.enum_told.given.1, tt)
@@ -34,12 +34,12 @@ row-at-requires : tie.Need-row-at-requires invariant-loop decreases-loop
 row-at-requires c κs = search rules
 
 row-field-requires : tie.Need-row-field-requires invariant-loop decreases-loop
-row-field-requires c κs = (row-width _ _ c.row_at.ensures, (search rules, whole-holds _ _ _ _ c.before.before.before.before.before.get.ensures _ _ c.before.before.before.bit.given.1))
+row-field-requires c κs = (row_width _ _ c.row_at.ensures, (search rules, whole_holds _ _ _ _ c.before.before.before.before.before.get.ensures _ _ c.before.before.before.bit.given.1))
 
 returns-2 : tie.Need-returns-2 invariant-loop decreases-loop
 returns-2 c =
     let loop = c.before.before.before.before.before.before.before.before.loop in (
-      λ f. rows-here _ _ loop.i _ loop.invariant.1 (omega arith) _ c.before.before.before.before.before.before.get.ensures _ _ c.before.before.before.before.bit.given.1 (omega arith) _ c.before.row_at.ensures f _ (c.row_field.ensures.0 f),
+      λ f. rows_here _ _ loop.i _ loop.invariant.1 (omega arith) _ c.before.before.before.before.before.before.get.ensures _ _ c.before.before.before.before.bit.given.1 (omega arith) _ c.before.row_at.ensures f _ (c.row_field.ensures.0 f),
       c.row_field.ensures.1,
     )
 
@@ -52,7 +52,7 @@ loop-less c = search rules
 loop-again : tie.Need-loop-preserved invariant-loop decreases-loop
 loop-again c =
     let loop = c.before.before.before.before.before.before.loop in
-    (omega arith, rows_next _ _ loop.i _ loop.invariant.1 (omega arith) _ c.before.before.before.before.get.ensures _ _ c.before.before.bit.given.1 (omega arith), whole-holds _ _ _ _ c.before.before.before.before.get.ensures _ _ c.before.before.bit.given.1)
+    (omega arith, rows_next _ _ loop.i _ loop.invariant.1 (omega arith) _ c.before.before.before.before.get.ensures _ _ c.before.before.bit.given.1 (omega arith), whole_holds _ _ _ _ c.before.before.before.before.get.ensures _ _ c.before.before.bit.given.1)
 
 last-field-requires : tie.Need-last-field-requires invariant-loop decreases-loop
 last-field-requires c κs = search rules

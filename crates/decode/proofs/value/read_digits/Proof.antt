@@ -1,8 +1,8 @@
 use Rattle.std.proofs.Common.{arith, rules}
-use Rattle.layout.specs.Reading.{readDigits}
-use Rattle.decode.specs.Parts.{thenValue, Behind}
-use Rattle.decode.proofs.Fields.{by-short, whole-holds}
-use Rattle.decode.proofs.Values.{digits-read}
+use Rattle.layout.specs.Reading.{read_digits}
+use Rattle.decode.specs.Parts.{then_value, Behind}
+use Rattle.decode.proofs.Fields.{by_short, whole_holds}
+use Rattle.decode.proofs.Values.{digits_read}
 use Rattle.decode.proofs.value.read_digits.Statement.{statement}
 use Rattle.decode.proofs.value.read_digits.Tie as tie
 
@@ -25,14 +25,14 @@ shl-xor : tie.Need-overflow-shl-xor
 shl-xor c = search rules
 
 returns : tie.Need-returns
-unfolding thenValue Behind readDigits
-returns c = (λ f. by-short _ _ _ _ _ _ c.before.before.get-digits.ensures c.enum_told.given.1, tt)
+unfolding then_value Behind read_digits
+returns c = (λ f. by_short _ _ _ _ _ _ c.before.before.get-digits.ensures c.enum_told.given.1, tt)
 
 returns-2 : tie.Need-returns-2
-unfolding thenValue Behind
+unfolding then_value Behind
 returns-2 c = let a = c.before.before.before.before.before.args in (
-  λ f. digits-read _ _ a.previous a.lead a.trail _ c.before.before.before.get-digits.ensures _ _ c.before.x.given.1 (omega arith) f,
-  (whole-holds _ _ _ _ c.before.before.before.get-digits.ensures _ _ c.before.x.given.1, omega arith),
+  λ f. digits_read _ _ a.previous a.lead a.trail _ c.before.before.before.get-digits.ensures _ _ c.before.x.given.1 (omega arith) f,
+  (whole_holds _ _ _ _ c.before.before.before.get-digits.ensures _ _ c.before.x.given.1, omega arith),
 )
 
 pub read-digits-spec : {M : Type 1} → statement M

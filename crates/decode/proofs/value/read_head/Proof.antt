@@ -1,7 +1,7 @@
 use Rattle.std.proofs.Common.{◌∙◌, arith, rules}
-use Rattle.layout.specs.Reading.{readValue}
-use Rattle.decode.specs.Parts.{thenHead, Sound}
-use Rattle.decode.proofs.Fields.{by-short, by_zero, by-other, whole-holds}
+use Rattle.layout.specs.Reading.{read_value}
+use Rattle.decode.specs.Parts.{then_head, Sound}
+use Rattle.decode.proofs.Fields.{by_short, by_zero, by_other, whole_holds}
 use Rattle.decode.proofs.value.read_head.Statement.{statement}
 use Rattle.decode.proofs.value.read_head.Tie as tie
 
@@ -15,23 +15,23 @@ enum_told : tie.Need-enum-told
 enum_told c = search rules
 
 returns : tie.Need-returns
-unfolding thenHead Sound readValue
-returns c = (λ v f. by-short _ _ _ _ _ _ c.before.before.get.ensures c.enum_told.given.1, tt)
+unfolding then_head Sound read_value
+returns c = (λ v f. by_short _ _ _ _ _ _ c.before.before.get.ensures c.enum_told.given.1, tt)
 
 returns-2 : tie.Need-returns-2
-unfolding thenHead Sound readValue
+unfolding then_head Sound read_value
 returns-2 c = (
   λ v f. by_zero _ _ _ _ _ _ _ c.before.before.before.before.get.ensures _ _ c.before.before.control-bit.given.1 (omega arith),
-  whole-holds _ _ _ _ c.before.before.before.before.get.ensures _ _ c.before.before.control-bit.given.1,
+  whole_holds _ _ _ _ c.before.before.before.before.get.ensures _ _ c.before.before.control-bit.given.1,
 )
 
 read-xor-requires : tie.Need-read-xor-requires
-read-xor-requires c κs = (search rules, (search rules, whole-holds _ _ _ _ c.before.before.before.before.get.ensures _ _ c.before.before.control-bit.given.1))
+read-xor-requires c κs = (search rules, (search rules, whole_holds _ _ _ _ c.before.before.before.before.get.ensures _ _ c.before.before.control-bit.given.1))
 
 returns-3 : tie.Need-returns-3
-unfolding readValue
+unfolding read_value
 returns-3 c = (
-  λ v f. c.read-xor.ensures.0 v f ∙ by-other _ _ _ _ _ _ _ c.before.before.before.before.before.get.ensures _ _ c.before.before.before.control-bit.given.1 (omega arith),
+  λ v f. c.read-xor.ensures.0 v f ∙ by_other _ _ _ _ _ _ _ c.before.before.before.before.before.get.ensures _ _ c.before.before.before.control-bit.given.1 (omega arith),
   c.read-xor.ensures.1,
 )
 

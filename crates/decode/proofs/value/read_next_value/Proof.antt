@@ -1,6 +1,6 @@
 use Rattle.std.proofs.Common.{◌∙◌, rules}
-use Rattle.decode.specs.Parts.{thenValue, Behind, thenHead}
-use Rattle.decode.proofs.Steps.{head-case, same-holds, digits-sound}
+use Rattle.decode.specs.Parts.{then_value, Behind, then_head}
+use Rattle.decode.proofs.Steps.{head_case, same_holds, digits_sound}
 use Rattle.decode.proofs.value.read_next_value.Statement.{statement}
 use Rattle.decode.proofs.value.read_next_value.Tie as tie
 
@@ -17,23 +17,23 @@ enum-known-l : tie.Need-enum-known-l
 enum-known-l c = search rules
 
 read-digits-requires : tie.Need-read-digits-requires
-read-digits-requires c κs = let k = digits-sound _ _ c.before.before.before.read_head.ensures.1 _ _ _ c.before.l.given.1 in (k.0, (search rules, k.1))
+read-digits-requires c κs = let k = digits_sound _ _ c.before.before.before.read_head.ensures.1 _ _ _ c.before.l.given.1 in (k.0, (search rules, k.1))
 
 returns : tie.Need-returns
-unfolding thenValue Behind thenHead
-returns c = (λ f. head-case _ _ _ _ _ _ _ c.before.why.given.1 (c.before.before.before.read_head.ensures.0 _ f), tt)
+unfolding then_value Behind then_head
+returns c = (λ f. head_case _ _ _ _ _ _ _ c.before.why.given.1 (c.before.before.before.read_head.ensures.0 _ f), tt)
 
 returns-2 : tie.Need-returns-2
-unfolding thenValue Behind thenHead
+unfolding then_value Behind then_head
 returns-2 c = (
-  λ f. head-case _ _ _ _ _ _ _ c.before.rest.given.1 (c.before.before.before.read_head.ensures.0 _ f),
-  (same-holds _ _ c.before.before.before.read_head.ensures.1 _ c.before.rest.given.1, search rules),
+  λ f. head_case _ _ _ _ _ _ _ c.before.rest.given.1 (c.before.before.before.read_head.ensures.0 _ f),
+  (same_holds _ _ c.before.before.before.read_head.ensures.1 _ c.before.rest.given.1, search rules),
 )
 
 returns-3 : tie.Need-returns-3
-unfolding thenHead
+unfolding then_head
 returns-3 c = (
-  λ f. c.read-digits.ensures.0 f ∙ head-case _ _ _ _ _ _ _ c.before.before.l.given.1 (c.before.before.before.before.read_head.ensures.0 _ f),
+  λ f. c.read-digits.ensures.0 f ∙ head_case _ _ _ _ _ _ _ c.before.before.l.given.1 (c.before.before.before.before.read_head.ensures.0 _ f),
   c.read-digits.ensures.1,
 )
 

@@ -1,7 +1,7 @@
 use mathlib.Core.Path.{refl}
 use borrow.Author.Rules.{rules}
 use Rattle.encode.specs.Parts.{word_of}
-use Rattle.encode.proofs.Values.{covers-digits}
+use Rattle.encode.proofs.Values.{covers_digits}
 use Rattle.encode.proofs.code.digits_of.Statement.{statement}
 use Rattle.encode.proofs.code.digits_of.Tie as tie
 
@@ -16,7 +16,7 @@ sub-len-2 c = search rules
 
 returns : tie.Need-returns
 unfolding word_of
-returns c = (refl, covers-digits _ _ _ c.ranges.x.fits c.requires.1, refl)
+returns c = (refl, covers_digits _ _ _ c.ranges.x.fits c.requires.1, refl)
 
 pub digits-of-spec : {M : Type 1} → statement M
 digits-of-spec = tie.close (tie.spec shr-bits sub-len sub-len-2 returns)

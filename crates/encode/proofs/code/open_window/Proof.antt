@@ -2,7 +2,7 @@ use mathlib.Core.Path.{refl}
 use native.Mathlib.Omega.{arith}
 use borrow.Author.Rules.{rules}
 use Rattle.encode.specs.Parts.{word_of, words}
-use Rattle.encode.proofs.Values.{open-words}
+use Rattle.encode.proofs.Values.{open_words}
 use Rattle.encode.proofs.code.open_window.Statement.{statement}
 use Rattle.encode.proofs.code.open_window.Tie as tie
 
@@ -41,7 +41,7 @@ returns c =
       head = (omega (arith, h.0, b.0, a.0, s.requires.0.0), h.1);
       digits = (omega (arith, d.0), d.1);
       size = d.0;
-      held = open-words (word_of s.args.time) _ _ _ (word_of c.before.before.before.join.result) (word_of c.before.before.join2.result) _ _ _ d.2 d.0 a.2 b.2 h.2;
+      held = open_words (word_of s.args.time) _ _ _ (word_of c.before.before.before.join.result) (word_of c.before.before.join2.result) _ _ _ d.2 d.0 a.2 b.2 h.2;
       window = refl;
     }
 

@@ -2,7 +2,7 @@ use mathlib.Core.Path.{refl}
 use native.Mathlib.Omega.{arith}
 use borrow.Author.Rules.{rules}
 use Rattle.encode.specs.Parts.{word_of, words}
-use Rattle.encode.proofs.Values.{reuse-words}
+use Rattle.encode.proofs.Values.{reuse_words}
 use Rattle.encode.proofs.code.reuse.Statement.{statement}
 use Rattle.encode.proofs.code.reuse.Tie as tie
 
@@ -22,7 +22,7 @@ returns c =
       head = (omega (arith, j.0, s.requires.0.0), j.1);
       digits = (omega (arith, d.0), d.1);
       size = d.0;
-      held = reuse-words (word_of s.args.time) _ _ _ _ _ j.2 d.2;
+      held = reuse_words (word_of s.args.time) _ _ _ _ _ j.2 d.2;
       window = refl;
     }
 

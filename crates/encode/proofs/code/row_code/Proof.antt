@@ -1,9 +1,9 @@
 use mathlib.Core.Path.{◌∙◌}
 use native.Mathlib.Omega.{arith}
 use mir.Facts.{to_z-of_z}
-use Rattle.layout.proofs.Fields.{field-size, in-row, span-back}
+use Rattle.layout.proofs.Fields.{field_size, in_row_lem, span_back}
 use Rattle.encode.specs.Parts.{word_of}
-use Rattle.encode.proofs.Signs.{abs-back}
+use Rattle.encode.proofs.Signs.{abs_back}
 use Rattle.encode.proofs.Codes.{row_word}
 use Rattle.encode.proofs.code.row_code.Statement.{statement}
 use Rattle.encode.proofs.code.row_code.Tie as tie
@@ -11,13 +11,13 @@ use Rattle.encode.proofs.code.row_code.Tie as tie
 field-of-requires : tie.Need-field-of-requires
 field-of-requires c κs =
     let g = c.requires.0 in
-    (g.narrow, rw (abs-back c.args.d c.ranges.d) (field-size _ _ g.spans.some (in-row _ _ g.spans c.requires.1)))
+    (g.narrow, rw (abs_back c.args.d c.ranges.d) (field_size _ _ g.spans.some (in_row_lem _ _ g.spans c.requires.1)))
 
 join-requires : tie.Need-join-requires
 join-requires c κs =
     let s = c.before in
     let g = s.requires.0 in
-    (g.whole, (omega (arith, g.short, g.narrow), rw (c.field_of.ensures, to_z-of_z s.ranges.d) (span-back _ _ g.spans s.requires.1).whole))
+    (g.whole, (omega (arith, g.short, g.narrow), rw (c.field_of.ensures, to_z-of_z s.ranges.d) (span_back _ _ g.spans s.requires.1).whole))
 
 returns : tie.Need-returns
 unfolding word_of

@@ -2,13 +2,13 @@ use mathlib.Core.Path.{◌∙◌}
 use native.Mathlib.Omega.{arith}
 use borrow.Author.Rules.{rules}
 use Rattle.encode.specs.Parts.{word_of}
-use Rattle.encode.proofs.Codes.{zero_is, dod-zero, in_rows}
+use Rattle.encode.proofs.Codes.{zero_is, dod_zero, in_rows}
 use Rattle.encode.proofs.code.time_code.Statement.{statement}
 use Rattle.encode.proofs.code.time_code.Tie as tie
 
 returns : tie.Need-returns
 unfolding word_of
-returns c = (omega arith, omega arith, dod-zero _ (zero_is _ c.before.ranges.d c.if1.true))
+returns c = (omega arith, omega arith, dod_zero _ (zero_is _ c.before.ranges.d c.if1.true))
 
 row-of-requires : tie.Need-row-of-requires
 row-of-requires c κs = search rules

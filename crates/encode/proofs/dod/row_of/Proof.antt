@@ -5,14 +5,14 @@ use lib.ListN.{drop}
 use mir.Val.{to_z}
 use mir.Syntax.{w64}
 use borrow.Author.Rules.{rules}
-use Rattle.layout.specs.Writing.{rowBits}
+use Rattle.layout.specs.Writing.{row_bits}
 use Rattle.layout.specs.Rows.{rows}
-use Rattle.encode.proofs.Codes.{row_here, row_next, row-behind, last-takes}
+use Rattle.encode.proofs.Codes.{row_here, row_next, row_behind, last_takes}
 use Rattle.encode.proofs.dod.row_of.Statement.{statement}
 use Rattle.encode.proofs.dod.row_of.Tie as tie
 
 abbrev invariant-loop : tie.invariant-loop
-invariant-loop d i₀ i = (i ≤ 3) × (rowBits rows (to_z w64 d) ≡ rowBits (drop i rows) (to_z w64 d))
+invariant-loop d i₀ i = (i ≤ 3) × (row_bits rows (to_z w64 d) ≡ row_bits (drop i rows) (to_z w64 d))
 
 abbrev decreases-loop : tie.decreases-loop
 decreases-loop d i₀ i = 3 - i
@@ -50,7 +50,7 @@ row-at-requires-2 c κs = search rules
 returns-2 : tie.Need-returns-2 invariant-loop decreases-loop
 returns-2 c =
     let s = c.before.before.before in
-    row_here _ s.ranges.d 3 _ c.row-at2.ensures (row-behind _ c.before.before.loop.i 3 (omega arith) c.before.before.loop.invariant.1) (omega arith) (last-takes _ _ s.ranges.d c.row-at2.ensures s.requires)
+    row_here _ s.ranges.d 3 _ c.row-at2.ensures (row_behind _ c.before.before.loop.i 3 (omega arith) c.before.before.loop.invariant.1) (omega arith) (last_takes _ _ s.ranges.d c.row-at2.ensures s.requires)
 
 pub row-of-spec : {M : Type 1} → statement M
 row-of-spec =

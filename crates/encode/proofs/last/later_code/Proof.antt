@@ -1,4 +1,4 @@
-use Rattle.encode.proofs.Points.{machine-in, dod-out, later-out, later-coded}
+use Rattle.encode.proofs.Points.{machine_in, dod_out, later_out, later_coded}
 use mathlib.Core.Path.{sym, ◌∙◌}
 use borrow.Author.Rules.{rules}
 use Rattle.encode.specs.Parts.{Meets}
@@ -18,21 +18,21 @@ enum-known-dod : tie.Need-enum-known-dod
 enum-known-dod c = search rules
 
 time-code-requires : tie.Need-time-code-requires
-time-code-requires c κs = machine-in _ _ _ (sym c.before.dod.given.1 ∙ c.before.before.before.dod-between.ensures)
+time-code-requires c κs = machine_in _ _ _ (sym c.before.dod.given.1 ∙ c.before.before.before.dod-between.ensures)
 
 value-code-requires : tie.Need-value-code-requires
 value-code-requires c κs = search rules
 
 returns : tie.Need-returns
 unfolding Meets
-returns c = let s = c.before.before.before.before.before in later-out _ _ _ s.requires.0 s.requires.1 (dod-out _ _ (sym c.enum_told.given.1 ∙ c.before.before.dod-between.ensures))
+returns c = let s = c.before.before.before.before.before in later_out _ _ _ s.requires.0 s.requires.1 (dod_out _ _ (sym c.enum_told.given.1 ∙ c.before.before.dod-between.ensures))
 
 returns-2 : tie.Need-returns-2
 unfolding Meets
 returns-2 c =
     let i = c.before.before.before.before.before in
     let s = i.before.before.before.before.before in
-    later-coded _ _ _ _ _ _ s.requires.0 s.requires.1 (sym i.dod.given.1 ∙ i.before.before.dod-between.ensures) c.before.before.before.time-code.ensures.2 c.value-code.ensures
+    later_coded _ _ _ _ _ _ s.requires.0 s.requires.1 (sym i.dod.given.1 ∙ i.before.before.dod-between.ensures) c.before.before.before.time-code.ensures.2 c.value-code.ensures
 
 pub later-code-spec : {M : Type 1} → statement M
 later-code-spec =

@@ -1,13 +1,13 @@
 use native.Mathlib.Omega.{arith}
 use borrow.Author.Rules.{rules}
 use Rattle.encode.specs.Parts.{word_of, ahead, zeroed}
-use Rattle.encode.proofs.CallLaws.{stands-as}
+use Rattle.encode.proofs.CallLaws.{stands_as}
 use Rattle.encode.proofs.pack.catch_up.Statement.{statement}
 use Rattle.encode.proofs.pack.catch_up.Tie as tie
 
 put-requires : tie.Need-put-requires
 put-requires c κs =
-    let t = stands-as 6 _ _ c.before.before.requires.0 in
+    let t = stands_as 6 _ _ c.before.before.requires.0 in
     (omega (arith, t.same, t.small), (omega arith, omega (arith, t.same)))
 
 same_length : tie.Need-same-length

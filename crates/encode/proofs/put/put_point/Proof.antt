@@ -1,6 +1,6 @@
 use native.Mathlib.Omega.{arith}
 use borrow.Author.Rules.{rules}
-use Rattle.stream.proofs.Bytes.{length-bits}
+use Rattle.stream.proofs.Bytes.{length_bits}
 use Rattle.encode.proofs.CallLaws.{put_both}
 use Rattle.encode.proofs.put.put_point.Statement.{statement}
 use Rattle.encode.proofs.put.put_point.Tie as tie
@@ -19,7 +19,7 @@ returns c =
     let s = c.before.before.before.before.before.before.before.before.before.before.before in
     let h = c.before.before.before.before.before.before.put.ensures in
     let d = c.before.before.put2.ensures in
-    (omega (arith, h.0, d.0), put_both _ _ _ _ _ s.args.k (rw length-bits (omega arith)) h.0 h.1 d.1)
+    (omega (arith, h.0, d.0), put_both _ _ _ _ _ s.args.k (rw length_bits (omega arith)) h.0 h.1 d.1)
 
 pub put-point-spec : {M : Type 1} → statement M
 put-point-spec = tie.close (tie.spec put-requires put-requires-2 same_length returns)

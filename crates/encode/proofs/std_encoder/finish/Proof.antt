@@ -3,7 +3,7 @@ use native.Mathlib.Omega.{arith}
 use borrow.Author.Rules.{rules}
 use Rattle.stream.specs.declared.position.BitPos.{BitPos}
 use Rattle.encode.specs.Calls.{marked}
-use Rattle.encode.proofs.CallLaws.{stands-as, length-marker, closes}
+use Rattle.encode.proofs.CallLaws.{stands_as, length_marker, closes}
 use Rattle.encode.proofs.std_encoder.finish.Statement.{statement}
 use Rattle.encode.proofs.std_encoder.finish.Tie as tie
 
@@ -12,9 +12,9 @@ end-marker-requires c κs = search rules
 
 put-requires : tie.Need-put-requires
 put-requires c κs =
-    let t = stands-as 6 _ _ c.before.before.before.requires in
+    let t = stands_as 6 _ _ c.before.before.before.requires in
     let m = c.end-marker.ensures in
-    (omega (arith, t.same, t.small), (omega (arith, m.1, length-marker), omega (arith, m.1, length-marker, t.same, t.room)))
+    (omega (arith, t.same, t.small), (omega (arith, m.1, length_marker), omega (arith, m.1, length_marker, t.same, t.room)))
 
 position-requires : tie.Need-position-requires
 position-requires c κs = search rules

@@ -1,7 +1,7 @@
 use Rattle.encode.specs.States.{view}
-use Rattle.encode.proofs.CallLaws.{with-bits, refused-time}
+use Rattle.encode.proofs.CallLaws.{with_bits, refused_time}
 use Rattle.encode.proofs.Points.{last_meets}
-use Rattle.encode.proofs.Standing.{refused-stands}
+use Rattle.encode.proofs.Standing.{refused_stands}
 use Rattle.encode.specs.Parts.{Meets}
 use mathlib.Core.Path.{◌∙◌}
 use borrow.Author.Rules.{rules}
@@ -31,9 +31,9 @@ returns : tie.Need-returns
 unfolding Meets
 returns c =
     let s = c.before.before.before.before.before.before.before in (
-      with-bits _ _ _ _ _ c.refuse.ensures
-          ∙ refused-time 6 _ _ _ _ c.before.before.code.given.0.0 s.requires (last_meets (view s.args.e) _ c.before.before.before.before.before.last.ensures _ _ _ c.before.before.before.before.code-after.ensures c.before.before.code.given.1),
-      refused-stands _ _ s.requires _ _ _ c.refuse.ensures,
+      with_bits _ _ _ _ _ c.refuse.ensures
+          ∙ refused_time 6 _ _ _ _ c.before.before.code.given.0.0 s.requires (last_meets (view s.args.e) _ c.before.before.before.before.before.last.ensures _ _ _ c.before.before.before.before.code-after.ensures c.before.before.code.given.1),
+      refused_stands _ _ s.requires _ _ _ c.refuse.ensures,
     )
 
 same_length : tie.Need-same-length

@@ -1,8 +1,8 @@
 use native.Mathlib.Omega.{arith}
 use borrow.Author.Rules.{rules}
-use Rattle.encode.proofs.CallLaws.{stands-as, no_room, written}
+use Rattle.encode.proofs.CallLaws.{stands_as, no_room, written}
 use Rattle.encode.proofs.Points.{rises}
-use Rattle.encode.proofs.Standing.{told-stands}
+use Rattle.encode.proofs.Standing.{told_stands}
 use Rattle.encode.proofs.std_encoder.write_point.Statement.{statement}
 use Rattle.encode.proofs.std_encoder.write_point.Tie as tie
 
@@ -13,7 +13,7 @@ get-requires : tie.Need-get-requires
 get-requires c κs = search rules
 
 mul-all : tie.Need-overflow-mul-all
-mul-all c = let t = stands-as 6 _ _ c.before.before.before.before.before.before.requires.0 in omega (arith, t.small)
+mul-all c = let t = stands_as 6 _ _ c.before.before.before.before.before.before.requires.0 in omega (arith, t.small)
 
 cast-need : tie.Need-overflow-cast-need
 cast-need c = search rules
@@ -30,7 +30,7 @@ bits-before-requires c κs = search rules
 add-end : tie.Need-overflow-add-end
 add-end c =
     let s = c.before.before.before.before.before.before.before.before.before in
-    let t = stands-as 6 _ _ s.requires.0 in
+    let t = stands_as 6 _ _ s.requires.0 in
     let h = s.requires.1.1 in
     omega (arith, t.small, t.room, h.head.0, h.digits.0)
 
@@ -40,7 +40,7 @@ cast-with-marker c = search rules
 add-with-marker : tie.Need-overflow-add-with-marker
 add-with-marker c =
     let s = c.before.before.before.before.before.before.before.before.before in
-    let t = stands-as 6 _ _ s.requires.0 in
+    let t = stands_as 6 _ _ s.requires.0 in
     let h = s.requires.1.1 in
     omega (arith, t.small, t.room, h.head.0, h.digits.0)
 
@@ -52,12 +52,12 @@ returns c =
     let s = c.before.before.before.before.before.before.before.before.before.before.before in
     let e = c.before.before.before.before.before.before.before.before.struct-known2.given in
     let p = c.before.before.before.before.before.before.before.before.before.struct_known.given in
-    told-stands _ _ s.requires.0 _ _ _ (no_room _ _ _ _ s.args.k s.requires.0 s.requires.1 _ _ c.refuse.ensures (omega arith)) e.1.1.0.fits p.1.0.fits
+    told_stands _ _ s.requires.0 _ _ _ (no_room _ _ _ _ s.args.k s.requires.0 s.requires.1 _ _ c.refuse.ensures (omega arith)) e.1.1.0.fits p.1.0.fits
 
 put-point-requires : tie.Need-put-point-requires
 put-point-requires c κs =
     let s = c.before.before.before.before.before.before.before.before.before.before.before in
-    let t = stands-as 6 _ _ s.requires.0 in
+    let t = stands_as 6 _ _ s.requires.0 in
     let h = s.requires.1.1 in
     (omega (arith, t.same, t.small), ((omega (arith, h.head.0), h.digits.0), omega (arith, t.same)))
 
@@ -70,7 +70,7 @@ returns-2 c =
     let p = c.before.before.put-point.ensures in
     let e = c.before.before.before.before.before.before.before.before.before.before.before.struct-known2.given in
     let q = c.before.before.before.before.before.before.before.before.before.before.before.before.struct_known.given in
-    told-stands _ _ s.requires.0 _ _ _ (written _ _ _ _ s.args.k s.requires.0 s.requires.1 _ _ p.0 (omega arith) p.1) e.1.1.0.fits q.1.0.fits
+    told_stands _ _ s.requires.0 _ _ _ (written _ _ _ _ s.args.k s.requires.0 s.requires.1 _ _ p.0 (omega arith) p.1) e.1.1.0.fits q.1.0.fits
 
 pub write-point-spec : {M : Type 1} → statement M
 write-point-spec =

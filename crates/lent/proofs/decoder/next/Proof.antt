@@ -43,7 +43,7 @@ use denote.Exit.{yes}
 use denote.Signature.{plain}
 use Rattle.stream.specs.Bits.{bits}
 use Rattle.decode.specs.States.{view}
-use Rattle.decode.specs.Calls.{toldNext, next_of}
+use Rattle.decode.specs.Calls.{told_next, next_of}
 use Rattle.decode.specs.declared.std_decoder.StdDecoder.{StdDecoder}
 use Rattle.decode.specs.declared.std_decoder.Next.{Next}
 use Rattle.decode.specs.declared.std_decoder.Step.{Step}
@@ -106,7 +106,7 @@ module _ {M : Type 1} {𝓤 : Ura M} (𝓛 : Logic 𝓤) (at_mem : Memory → SP
 
   -- what the decoder ensures of its result
   abbrev Said : Next → Type 0
-  Said r = toldNext r ≡ next_of 6 (view s) (length x.now) (bits x.now)
+  Said r = told_next r ≡ next_of 6 (view s) (length x.now) (bits x.now)
 
   said : (r : Next) → ent 𝓤 (ensured 𝓛 work.ended (work.clauses 𝓛 at_mem run) (κ', tt) (s, (x, tt)) tt r) (fact 𝓤 (Said r))
   said r = ex_e 𝓤 _ (λ ws. snd∗ 𝓤 (sem 𝓛 (lasts work.ended (κ', tt) (s, (x, tt)) ws)) (fact 𝓤 (Said r)))

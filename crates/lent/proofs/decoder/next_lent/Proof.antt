@@ -42,7 +42,7 @@ use denote.Exit.{yes}
 use denote.Signature.{plain}
 use Rattle.stream.specs.Bits.{bits}
 use Rattle.decode.specs.States.{view}
-use Rattle.decode.specs.Calls.{toldNext, next_of}
+use Rattle.decode.specs.Calls.{told_next, next_of}
 use Rattle.decode.specs.declared.std_decoder.StdDecoder.{StdDecoder}
 use Rattle.decode.specs.declared.std_decoder.Next.{Next}
 use Rattle.decode.specs.declared.std_decoder.Step.{Step}
@@ -125,7 +125,7 @@ module _ {M : Type 1} {𝓤 : Ura M} (𝓛 : Logic 𝓤) (at_mem : Memory → SP
 
   -- what `next` ensures of its answer and the state that it left
   abbrev Said : Step → StdDecoder → Type 0
-  Said n t = toldNext (answered n t) ≡ next_of 6 (view s) (length x.now) (bits x.now)
+  Said n t = told_next (answered n t) ≡ next_of 6 (view s) (length x.now) (bits x.now)
 
   exits : (n : Step) (t : StdDecoder) → Said n t → Is E.the_row (answered n t) (ev (answered n t) ∷ []) → ent 𝓤 (⋆ 𝓛 ((‵ (flft κ q) ⊛ ‵ ftrue) ∷ ‵ Own ∷ [])) (Post (ev (answered n t)))
   exits n t e e-is =

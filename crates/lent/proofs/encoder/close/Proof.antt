@@ -42,7 +42,7 @@ use denote.Triple.Walked.{says, Stays, stay_ref, gave_slice, walk_of, Goes-ref, 
 use denote.Signature.{plain}
 use Rattle.stream.specs.Bits.{bits}
 use Rattle.encode.specs.States.{view}
-use Rattle.encode.specs.Calls.{toldClosing, closeOf}
+use Rattle.encode.specs.Calls.{told_closing, close_of}
 use Rattle.encode.specs.declared.std_encoder.StdEncoder.{StdEncoder}
 use Rattle.encode.specs.declared.std_encoder.Closing.{Closing}
 use Rattle.encode.specs.declared.std_encoder.CloseAnswer.{CloseAnswer}
@@ -104,7 +104,7 @@ module _ {M : Type 1} {𝓤 : Ura M} (𝓛 : Logic 𝓤) (at_mem : Memory → SP
 
   -- what the encoder ensures of its result and the last list
   abbrev Said : Closing → List ℕ → Type 0
-  Said r zs = toldClosing r zs ≡ closeOf 6 (view s) (length ys) (bits ys)
+  Said r zs = told_closing r zs ≡ close_of 6 (view s) (length ys) (bits ys)
 
   exits : (r : Closing) (zs : List ℕ) → Said r zs → length zs ≡ length ys → Is N.the_row r.answer (nv r.answer ∷ [])
       → ent 𝓤 (⋆ 𝓛 (‵ (fobs γ ((S.the_row).coded.code r.encoder)) ∷ ‵ (fbor κ (Body (mem S.the_row) b o γ)) ∷ ‵ (flft κ q) ∷ (‵ (flft κ' q') ⊛ ‵ ftrue) ∷ ‵ (finally u8 γ' zs) ∷ [])) (Post (nv r.answer))

@@ -42,7 +42,7 @@ use denote.Exit.{yes}
 use denote.Signature.{plain}
 use Rattle.stream.specs.Bits.{bits}
 use Rattle.encode.specs.States.{view}
-use Rattle.encode.specs.Calls.{toldClosing, closeOf}
+use Rattle.encode.specs.Calls.{told_closing, close_of}
 use Rattle.encode.specs.declared.std_encoder.StdEncoder.{StdEncoder}
 use Rattle.encode.specs.declared.std_encoder.Closing.{Closing}
 use Rattle.encode.specs.declared.std_encoder.CloseAnswer.{CloseAnswer}
@@ -124,7 +124,7 @@ module _ {M : Type 1} {𝓤 : Ura M} (𝓛 : Logic 𝓤) (at_mem : Memory → SP
 
   -- what `close` ensures of its answer, the state that it left, and the last list
   abbrev Said : CloseAnswer → StdEncoder → List ℕ → Type 0
-  Said n t zs = toldClosing (shutting n t) zs ≡ closeOf 6 (view s) (length ys) (bits ys)
+  Said n t zs = told_closing (shutting n t) zs ≡ close_of 6 (view s) (length ys) (bits ys)
 
   exits : (n : CloseAnswer) (t : StdEncoder) (zs : List ℕ) → Said n t zs → length zs ≡ length ys → Is E.the_row (shutting n t) (ev (shutting n t) ∷ [])
       → ent 𝓤 (⋆ 𝓛 ((‵ (flft κ q) ⊛ ‵ ftrue) ∷ ‵ (finally u8 γ zs) ∷ [])) (Post (ev (shutting n t)))

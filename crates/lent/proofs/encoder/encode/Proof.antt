@@ -44,7 +44,7 @@ use denote.Signature.{plain}
 use Rattle.stream.specs.Bits.{bits}
 use Rattle.point.specs.declared.Stored.{Stored}
 use Rattle.encode.specs.States.{view, point_of}
-use Rattle.encode.specs.Calls.{toldEncoded, encodeOf}
+use Rattle.encode.specs.Calls.{told_encoded, encode_of}
 use Rattle.encode.specs.declared.std_encoder.StdEncoder.{StdEncoder}
 use Rattle.encode.specs.declared.std_encoder.Encoded.{Encoded}
 use Rattle.encode.specs.declared.std_encoder.EncodeAnswer.{EncodeAnswer}
@@ -111,7 +111,7 @@ module _ {M : Type 1} {𝓤 : Ura M} (𝓛 : Logic 𝓤) (at_mem : Memory → SP
 
   -- what the encoder ensures of its result and the last list
   abbrev Said : Encoded → List ℕ → Type 0
-  Said r zs = toldEncoded r zs ≡ encodeOf 6 (view s) (length ys) (bits ys) (point_of p)
+  Said r zs = told_encoded r zs ≡ encode_of 6 (view s) (length ys) (bits ys) (point_of p)
 
   exits : (r : Encoded) (zs : List ℕ) → Said r zs → length zs ≡ length ys → Is N.the_row r.answer (nv r.answer ∷ [])
       → ent 𝓤 (⋆ 𝓛 (‵ (fobs γ ((S.the_row).coded.code r.encoder)) ∷ ‵ (fbor κ (Body (mem S.the_row) b o γ)) ∷ ‵ (flft κ q) ∷ (‵ (flft κ' q') ⊛ ‵ ftrue) ∷ ‵ (finally u8 γ' zs) ∷ [])) (Post (nv r.answer))

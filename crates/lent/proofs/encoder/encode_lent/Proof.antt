@@ -42,7 +42,7 @@ use denote.Exit.{yes}
 use denote.Signature.{plain}
 use Rattle.stream.specs.Bits.{bits}
 use Rattle.encode.specs.States.{view, point_of}
-use Rattle.encode.specs.Calls.{toldEncoded, encodeOf}
+use Rattle.encode.specs.Calls.{told_encoded, encode_of}
 use Rattle.encode.specs.declared.std_encoder.StdEncoder.{StdEncoder}
 use Rattle.encode.specs.declared.std_encoder.Encoded.{Encoded}
 use Rattle.encode.specs.declared.std_encoder.EncodeAnswer.{EncodeAnswer}
@@ -130,7 +130,7 @@ module _ {M : Type 1} {𝓤 : Ura M} (𝓛 : Logic 𝓤) (at_mem : Memory → SP
 
   -- what `encode` ensures of its answer, the state that it left, and the last list
   abbrev Said : EncodeAnswer → StdEncoder → List ℕ → Type 0
-  Said n t zs = toldEncoded (offered n t) zs ≡ encodeOf 6 (view s) (length ys) (bits ys) (point_of p)
+  Said n t zs = told_encoded (offered n t) zs ≡ encode_of 6 (view s) (length ys) (bits ys) (point_of p)
 
   exits : (n : EncodeAnswer) (t : StdEncoder) (zs : List ℕ) → Said n t zs → length zs ≡ length ys → Is E.the_row (offered n t) (ev (offered n t) ∷ [])
       → ent 𝓤 (⋆ 𝓛 ((‵ (flft κ q) ⊛ ‵ ftrue) ∷ ‵ (finally u8 γ zs) ∷ [])) (Post (ev (offered n t)))

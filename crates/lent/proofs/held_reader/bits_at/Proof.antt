@@ -1,5 +1,5 @@
 use borrow.Author.Rules.{rules}
-use Rattle.lent.proofs.Placing.{read-placed}
+use Rattle.lent.proofs.Placing.{read_placed}
 use Rattle.lent.proofs.held_reader.bits_at.Statement.{statement}
 use Rattle.lent.proofs.held_reader.bits_at.Tie as tie
 
@@ -13,7 +13,7 @@ position-requires : tie.Need-position-requires
 position-requires c κs = search rules
 
 returns : tie.Need-returns
-returns c = read-placed _ _ _ _ c.before.before.at.ensures c.before.read-bits.result _ c.position.ensures c.before.read-bits.ensures
+returns c = read_placed _ _ _ _ c.before.before.at.ensures c.before.read-bits.result _ c.position.ensures c.before.read-bits.ensures
 
 pub bits-at-spec : {M : Type 1} → statement M
 bits-at-spec = tie.close (tie.spec at-requires read-bits-requires position-requires returns)

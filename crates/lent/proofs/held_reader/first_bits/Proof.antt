@@ -36,7 +36,7 @@ use denote.Triple.Table.{entered, cited}
 use denote.Triple.Walked.{says, Stays, stay_none, stay_none_slice, walk_of, Goes-none, Goes-none_slice, Walks, ends_at, walked, walk_Meets}
 use denote.Exit.{yes}
 use denote.Triple.Clauses.{ensured, lasts}
-use Rattle.stream.specs.Calls.{tellBits, peekOf}
+use Rattle.stream.specs.Calls.{tell_bits, peek_of}
 use Rattle.stream.specs.declared.buffered_read.BitsAnswer.{BitsAnswer}
 use Rattle.stream.specs.contracts.buffered_read.BitsAnswer as S
 use Rattle.stream.proofs.buffered_read.BitsAnswer.TheLaws as S'
@@ -102,11 +102,11 @@ module _ {M : Type 1} {𝓤 : Ura M} (𝓛 : Logic 𝓤) (mem : Memory → SProp
       -- [what the slice owns; the same again; the token]
       nothing ! $ move ! (1 ∷ 0 ∷ []) $ fjoin ! $ move ! (2 ∷ 0 ∷ []) $ use2 𝓛 (raw ((New 𝓛 mem run).pre to-new)) asked-new $ frame ! $ done !
 
-  abbrev New-says : HeldReader → Type 0
-  New-says r = (r.bytes ≡ s) × (r.at.0 ≡ 0)
+  abbrev NewSays : HeldReader → Type 0
+  NewSays r = (r.bytes ≡ s) × (r.at.0 ≡ 0)
 
-  new-said : (r : HeldReader) → ent 𝓤 (ensured 𝓛 new.ended (new.clauses 𝓛 mem run) (κ, tt) (s, tt) tt r) (fact 𝓤 (New-says r))
-  new-said r = ex_e 𝓤 _ (λ ws. snd∗ 𝓤 (sem 𝓛 (lasts new.ended (κ, tt) (s, tt) ws)) (fact 𝓤 (New-says r)))
+  new-said : (r : HeldReader) → ent 𝓤 (ensured 𝓛 new.ended (new.clauses 𝓛 mem run) (κ, tt) (s, tt) tt r) (fact 𝓤 (NewSays r))
+  new-said r = ex_e 𝓤 _ (λ ws. snd∗ 𝓤 (sem 𝓛 (lasts new.ended (κ, tt) (s, tt) ws)) (fact 𝓤 (NewSays r)))
 
   -- the call of `peak_bits`, at the reader r with the machine value u
   abbrev to-peak : HeldReader → Val → (Peak 𝓛 mem run).Ghost
@@ -116,17 +116,17 @@ module _ {M : Type 1} {𝓤 : Ura M} (𝓛 : Logic 𝓤) (mem : Memory → SProp
   goes-peak r u = qed 𝓛 (‵ ((B (κ, tt)).own_val r (u ∷ [])) ∷ (‵ (flft κ q) ⊛ ‵ ftrue) ∷ []) ∵
       nothing ! $ owned ! u32 (Is u32) (uint_Makes 𝓛 w32) n _ (refl, n-fits) $ fjoin ! $ move ! (1 ∷ 0 ∷ []) $ fjoin ! $ move ! (1 ∷ 0 ∷ []) $ join ! $ frame ! $ done !
 
-  abbrev Peak-says : HeldReader → BitsAnswer → Type 0
-  Peak-says r a = tellBits a ≡ (peekOf r.bytes.now r.at.0 n).0
+  abbrev PeakSays : HeldReader → BitsAnswer → Type 0
+  PeakSays r a = tell_bits a ≡ (peek_of r.bytes.now r.at.0 n).0
 
-  peak-said : (r : HeldReader) (a : BitsAnswer) → ent 𝓤 (ensured 𝓛 peak.ended (peak.clauses 𝓛 mem run) (κ, tt) (r, (n, tt)) tt a) (fact 𝓤 (Peak-says r a))
-  peak-said r a = ex_e 𝓤 _ (λ ws. snd∗ 𝓤 (sem 𝓛 (lasts peak.ended (κ, tt) (r, (n, tt)) ws)) (fact 𝓤 (Peak-says r a)))
+  peak-said : (r : HeldReader) (a : BitsAnswer) → ent 𝓤 (ensured 𝓛 peak.ended (peak.clauses 𝓛 mem run) (κ, tt) (r, (n, tt)) tt a) (fact 𝓤 (PeakSays r a))
+  peak-said r a = ex_e 𝓤 _ (λ ws. snd∗ 𝓤 (sem 𝓛 (lasts peak.ended (κ, tt) (r, (n, tt)) ws)) (fact 𝓤 (PeakSays r a)))
 
   -- both together are the contract's equation
-  told : (r : HeldReader) (a : BitsAnswer) → New-says r → Peak-says r a → tellBits a ≡ (peekOf s.now 0 n).0
-  told r a e e' = e' ∙ (λ i. (peekOf (e.0 i).now (e.1 i) n).0)
+  told : (r : HeldReader) (a : BitsAnswer) → NewSays r → PeakSays r a → tell_bits a ≡ (peek_of s.now 0 n).0
+  told r a e e' = e' ∙ (λ i. (peek_of (e.0 i).now (e.1 i) n).0)
 
-  exits : (a : BitsAnswer) (u : Val) → tellBits a ≡ (peekOf s.now 0 n).0 → ent 𝓤 (⋆ 𝓛 (‵ ((S.the_row).own_val a (u ∷ [])) ∷ (‵ (flft κ q) ⊛ ‵ ftrue) ∷ ‵ Own ∷ [])) (Post u)
+  exits : (a : BitsAnswer) (u : Val) → tell_bits a ≡ (peek_of s.now 0 n).0 → ent 𝓤 (⋆ 𝓛 (‵ ((S.the_row).own_val a (u ∷ [])) ∷ (‵ (flft κ q) ⊛ ‵ ftrue) ∷ ‵ Own ∷ [])) (Post u)
   exits a u e =
       qed 𝓛 (‵ ((S.the_row).own_val a (u ∷ [])) ∷ (‵ (flft κ q) ⊛ ‵ ftrue) ∷ ‵ Own ∷ []) ∵
       suffices ! _ (ends_at 𝓛 first.ended stayed (first.clauses 𝓛 mem run) (((κ, tt), (q, tt), tt, (s, (n, tt)), vals), tt) u a (tt, (tt, tt)) (tt, (tt, tt))) $ says ! e $
@@ -143,14 +143,14 @@ module _ {M : Type 1} {𝓤 : Ura M} (𝓛 : Logic 𝓤) (mem : Memory → SProp
         move ! (8 ∷ []) $ use1 𝓛 (raw ((New 𝓛 mem run).pre to-new) ⊛ ‵ Own) goes-new $ split ! $
         calls_at ! fm (New 𝓛 mem run) known-new to-new (and_then ! (load ! (from ! (stop !)) (look ! 6 refl)) (no_more !)) (λ u.
         use1 𝓛 (later (some (λ (r : HeldReader). ((‵ (flft κ q) ⊛ ‵ ftrue) ⊛ ‵ ((B (κ, tt)).own_val r (u ∷ []))) ⊛ raw (ensured 𝓛 new.ended (new.clauses 𝓛 mem run) (κ, tt) (s, tt) tt r)))) (id⊢ 𝓤 _) $ await ! tt $ pick ! (λ r.
-        split ! $ move ! (1 ∷ []) $ use1 𝓛 (raw (fact 𝓤 (New-says r))) (new-said r) $ heard ! (New-says r) (λ e. split ! $ move ! (1 ∷ []) $
+        split ! $ move ! (1 ∷ []) $ use1 𝓛 (raw (fact 𝓤 (NewSays r))) (new-said r) $ heard ! (NewSays r) (λ e. split ! $ move ! (1 ∷ []) $
         -- [what the reader owns; the token; what the slice owns; room for _3; …; _2; …; _1; …; room for _0; …]
         peeks ! (B (κ, tt)) (Is (B (κ, tt))) (shows 𝓛 (B (κ, tt))) r (u ∷ []) (λ is.
         land ! (from ! (stop !)) (init ! 3 refl ((LL.lawful (T.the_type αᵉ) (T'.the_laws αᵉ) 𝓛).typed r _ is).0) $
         use2 𝓛 (raw ((Peak 𝓛 mem run).pre (to-peak r u))) (goes-peak r u) $
         calls_at ! fm (Peak 𝓛 mem run) known-peak (to-peak r u) (and_then ! (load ! (from ! (stop !)) (look ! 2 refl)) (and_then ! (load ! (from ! (stop !)) (look ! 4 refl)) (no_more !))) (λ u'.
         use1 𝓛 (later (some (λ (a : BitsAnswer). ((‵ (flft κ q) ⊛ ‵ ftrue) ⊛ ‵ ((S.the_row).own_val a (u' ∷ []))) ⊛ raw (ensured 𝓛 peak.ended (peak.clauses 𝓛 mem run) (κ, tt) (r, (n, tt)) tt a)))) (id⊢ 𝓤 _) $ await ! tt $ pick ! (λ a.
-        split ! $ move ! (1 ∷ []) $ use1 𝓛 (raw (fact 𝓤 (Peak-says r a))) (peak-said r a) $ heard ! (Peak-says r a) (λ e'. split ! $ move ! (1 ∷ []) $
+        split ! $ move ! (1 ∷ []) $ use1 𝓛 (raw (fact 𝓤 (PeakSays r a))) (peak-said r a) $ heard ! (PeakSays r a) (λ e'. split ! $ move ! (1 ∷ []) $
         -- [the answer; the token; what the slice owns; _3; …; _2; …; _1; …; room for _0; …]
         peeks ! S.the_row (Is S.the_row) (shows 𝓛 S.the_row) a (u' ∷ []) (λ a-is.
         land ! (from ! (stop !)) (init ! 9 refl ((EL.lawful S.the_type S'.the_laws 𝓛 tt).typed a _ a-is).0) $

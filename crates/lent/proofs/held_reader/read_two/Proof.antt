@@ -50,10 +50,10 @@ use Rattle.stream.specs.contracts.position.BitPos as P
 use Rattle.stream.proofs.position.BitPos.TheLaws as P'
 use Rattle.stream.specs.contracts.buffered_read.BitsAnswer as N
 use Rattle.stream.proofs.buffered_read.BitsAnswer.TheLaws as N'
-use Rattle.lent.specs.Calls.{toldHeld, held_of, toldTwo, twoOf}
+use Rattle.lent.specs.Calls.{told_held, held_of, told_two, two_of}
 use Rattle.lent.specs.declared.held_reader.HeldReader.{HeldReader}
 use Rattle.lent.specs.declared.held_reader.TwoReads.{TwoReads}
-use Rattle.lent.proofs.Lending.{spelled_is, lends_local, local_back, Whole, meets, meet-ends}
+use Rattle.lent.proofs.Lending.{spelled_is, lends_local, local_back, Whole, meets, meet_ends}
 use Rattle.lent.specs.contracts.held_reader.HeldReader as T
 use Rattle.lent.proofs.held_reader.HeldReader.TheLaws as T'
 use Rattle.lent.specs.contracts.held_reader.TwoReads as D
@@ -159,7 +159,7 @@ module _ {M : Type 1} {𝓤 : Ura M} (𝓛 : Logic 𝓤) (at_mem : Memory → SP
     to_read ν δ = (((ν ∷ κ, (κ, tt)), (PosShare.left q, (PosShare.right q, tt)), (meet_⊑_right (ν ∷ []) κ, tt), passed δ, sent), tt)
 
     abbrev Said : BitsAnswer → HeldReader → Type 0
-    Said n r = toldHeld n r ≡ held_of h k
+    Said n r = told_held n r ≡ held_of h k
 
     asks : k < 2 ^ 32 → (ν : ℕ) (δ : GName) → ent 𝓤 (⋆ 𝓛 (Tokens ν ∷ Lent ν δ ∷ [])) ((Read 𝓛 at_mem run).pre (to_read ν δ))
     asks k-fits ν δ = qed 𝓛 (Tokens ν ∷ Lent ν δ ∷ []) ∵
@@ -189,7 +189,7 @@ module _ {M : Type 1} {𝓤 : Ura M} (𝓛 : Logic 𝓤) (at_mem : Memory → SP
         -- [the last reader; …; the tokens and the answer; the lender's part; what makes ν's token whole]
         move ! (2 ∷ []) $ split ! $ move ! (1 ∷ []) $ peeks ! N.the_row (Is N.the_row) (shows 𝓛 N.the_row) n (u ∷ []) (λ n-is.
         -- ν is ended, and the local comes back at the last reader
-        move ! (1 ∷ 5 ∷ []) $ use2 𝓛 (later (‵ (fdead (ν ∷ κ)) ⊛ Token)) (meet-ends 𝓛 ν κ q) $ await ! tt $ split ! $ move ! (0 ∷ 5 ∷ 3 ∷ []) $
+        move ! (1 ∷ 5 ∷ []) $ use2 𝓛 (later (‵ (fdead (ν ∷ κ)) ⊛ Token)) (meet_ends 𝓛 ν κ q) $ await ! tt $ split ! $ move ! (0 ∷ 5 ∷ 3 ∷ []) $
         use3 𝓛 (later (Cell (hv ws.0) ⊛ Owned ws.0 (hv ws.0))) (local_back 𝓛 B (T'.mir erased) refl hv (LL.tells (T.the_type α) (T'.the_laws α)) (ν ∷ κ) δ ws.0 l 0) $ await ! tt $ split ! $
         move ! (1 ∷ []) $ peeks ! B (Is B) (shows 𝓛 B) ws.0 (hv ws.0 ∷ []) (λ r-is.
         -- [what the reader owns; its cell; the token; …]
@@ -239,10 +239,10 @@ module _ {M : Type 1} {𝓤 : Ura M} (𝓛 : Logic 𝓤) (at_mem : Memory → SP
 
     -- ---- so the result is the bit reader's on the bytes passed, the second from where the first left it
     abbrev Says : BitsAnswer → BitsAnswer → BitPos → Type 0
-    Says n n' p = toldTwo (reads n n' p) ≡ twoOf x.now m.0 j k
+    Says n n' p = told_two (reads n n' p) ≡ two_of x.now m.0 j k
 
-    told : (n n' : BitsAnswer) (r r' : HeldReader) (p : BitPos) → toldHeld n r ≡ held_of h j → toldHeld n' r' ≡ held_of r k → p ≡ r'.at → Says n n' p
-    told n n' r r' p e e' at_p = ap (λ (z : BitPos). toldTwo (reads n n' z)) at_p ∙ (λ i. ((e i).0, ((e' i).0, (e' i).1))) ∙ (λ i. ((read_of x.now m.0 j).0, read_of (e i).2.now (e i).1 k))
+    told : (n n' : BitsAnswer) (r r' : HeldReader) (p : BitPos) → told_held n r ≡ held_of h j → told_held n' r' ≡ held_of r k → p ≡ r'.at → Says n n' p
+    told n n' r r' p e e' at_p = ap (λ (z : BitPos). told_two (reads n n' z)) at_p ∙ (λ i. ((e i).0, ((e' i).0, (e' i).1))) ∙ (λ i. ((read_of x.now m.0 j).0, read_of (e i).2.now (e i).1 k))
 
     exits : (n n' : BitsAnswer) (p : BitPos) → Says n n' p → Is D.the_row (reads n n' p) (dv (reads n n' p) ∷ []) → ent 𝓤 (⋆ 𝓛 (Token ∷ ‵ Own ∷ [])) (Post (dv (reads n n' p)))
     exits n n' p e d-is =

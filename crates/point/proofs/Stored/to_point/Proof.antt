@@ -2,7 +2,7 @@ use borrow.Author.Rules.{rules}
 use mathlib.Core.Path.{sym}
 use native.Mathlib.Omega.{arith}
 use lib.Ieee.{of_bits, div}
-use Rattle.point.proofs.Floats.{above, not-above}
+use Rattle.point.proofs.Floats.{above, not_above}
 use Rattle.point.proofs.Stored.to_point.Statement.{statement}
 use Rattle.point.proofs.Stored.to_point.Tie as tie
 
@@ -11,7 +11,7 @@ unfolding div of_bits
 returns c = λ i. record { time = c.before.args.self.time; value = sym (above c.before.args.self.bits (omega arith)) i }
 
 float-from-bits-value : tie.Need-float-from-bits-value
-float-from-bits-value c = rw (not-above c.before.args.self.bits (omega arith)) tt
+float-from-bits-value c = rw (not_above c.before.args.self.bits (omega arith)) tt
 
 returns-2 : tie.Need-returns-2
 returns-2 c = search rules

@@ -3,8 +3,8 @@ use mathlib.Core.Path.{◌≡◌}
 use Prim.Native.Nat.{◌+◌, ◌-◌, ◌≤◌}
 use native.Mathlib.Omega.{arith}
 use Rattle.stream.specs.Bits.{value_of, bits, field}
-use Rattle.stream.proofs.Bytes.{length-bits}
-use Rattle.stream.proofs.Taking.{none_read, has_room, more-read, all_read}
+use Rattle.stream.proofs.Bytes.{length_bits}
+use Rattle.stream.proofs.Taking.{none_read, has_room, more_read, all_read}
 use Rattle.stream.proofs.get.get_bytes.Statement.{statement}
 use Rattle.stream.proofs.get.get_bytes.Tie as tie
 
@@ -39,7 +39,7 @@ loop-again c =
     let loop = c.before.before.before.loop in (
       search rules,
       omega arith,
-      more-read _ _ _ _ _ _ _ _ (omega arith) (omega arith) loop.invariant.1 (rw length-bits (omega arith)) loop.invariant.2 c.more.ensures,
+      more_read _ _ _ _ _ _ _ _ (omega arith) (omega arith) loop.invariant.1 (rw length_bits (omega arith)) loop.invariant.2 c.more.ensures,
     )
 
 returns : tie.Need-returns invariant-loop decreases-loop

@@ -1,7 +1,7 @@
 use borrow.Author.Rules.{rules}
 use native.Mathlib.Omega.{arith}
-use Rattle.stream.proofs.Bytes.{length-bits}
-use Rattle.stream.proofs.Taking.{ahead-some}
+use Rattle.stream.proofs.Bytes.{length_bits}
+use Rattle.stream.proofs.Taking.{ahead_some}
 use Rattle.stream.proofs.get.get_field.Statement.{statement}
 use Rattle.stream.proofs.get.get_field.Tie as tie
 
@@ -18,7 +18,7 @@ shr-result : tie.Need-overflow-shr-result
 shr-result c = search rules
 
 returns : tie.Need-returns
-returns c = ahead-some _ _ _ _ c.word-from.ensures (omega arith) (rw length-bits (omega arith))
+returns c = ahead_some _ _ _ _ c.word-from.ensures (omega arith) (rw length_bits (omega arith))
 
 get-bytes-requires : tie.Need-get-bytes-requires
 get-bytes-requires c κs = search rules

@@ -1,6 +1,6 @@
 use borrow.Author.Rules.{rules}
 use native.Mathlib.Omega.{arith}
-use Rattle.stream.proofs.Taking.{shl-sum, more-value}
+use Rattle.stream.proofs.Taking.{shl_sum, more_value}
 use Rattle.stream.proofs.get.more.Statement.{statement}
 use Rattle.stream.proofs.get.more.Tie as tie
 
@@ -23,12 +23,12 @@ digits-requires : tie.Need-digits-requires
 digits-requires c κs = search rules
 
 add-result : tie.Need-overflow-add-result
-add-result c = record { fits = shl-sum _ _ _ (omega arith) c.before.before.before.before.requires.1.1.1 c.digits.ensures.0 }
+add-result c = record { fits = shl_sum _ _ _ (omega arith) c.before.before.before.before.requires.1.1.1 c.digits.ensures.0 }
 
 returns : tie.Need-returns
 returns c =
     let pre = c.before.before.before.before.requires in
-    more-value _ _ _ _ _ _ pre.0 pre.1.0 pre.1.1.0 pre.1.1.1 c.before.wide.ensures.0 c.digits.ensures.0 c.digits.ensures.1
+    more_value _ _ _ _ _ _ pre.0 pre.1.0 pre.1.1.0 pre.1.1.1 c.before.wide.ensures.0 c.digits.ensures.0 c.digits.ensures.1
 
 pub more-spec : {M : Type 1} → statement M
 more-spec =

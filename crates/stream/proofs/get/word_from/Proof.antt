@@ -1,7 +1,7 @@
 use borrow.Author.Rules.{rules}
 use native.Mathlib.Omega.{arith}
-use Rattle.stream.proofs.Bytes.{length-bits}
-use Rattle.stream.proofs.Taking.{ahead-fits, ahead-sum}
+use Rattle.stream.proofs.Bytes.{length_bits}
+use Rattle.stream.proofs.Taking.{ahead_fits, ahead_sum}
 use Rattle.stream.proofs.get.word_from.Statement.{statement}
 use Rattle.stream.proofs.get.word_from.Tie as tie
 
@@ -24,10 +24,10 @@ shr-result : tie.Need-overflow-shr-result
 shr-result c = search rules
 
 add-result : tie.Need-overflow-add-result
-add-result c = record { fits = ahead-fits _ _ _ _ c.before.word.ensures c.byte_at.ensures (rw length-bits (omega arith)) }
+add-result c = record { fits = ahead_fits _ _ _ _ c.before.word.ensures c.byte_at.ensures (rw length_bits (omega arith)) }
 
 returns : tie.Need-returns
-returns c = ahead-sum _ _ _ _ c.before.word.ensures c.byte_at.ensures (rw length-bits (omega arith))
+returns c = ahead_sum _ _ _ _ c.before.word.ensures c.byte_at.ensures (rw length_bits (omega arith))
 
 pub word-from-spec : {M : Type 1} → statement M
 word-from-spec =

@@ -1,6 +1,6 @@
 use borrow.Author.Rules.{rules}
 use Prim.Native.Nat.{◌<◌}
-use Rattle.stream.proofs.Placing.{placed-byte, placed-bits}
+use Rattle.stream.proofs.Placing.{placed_byte, placed_bits}
 use Rattle.stream.proofs.put.placed.Statement.{statement}
 use Rattle.stream.proofs.put.placed.Tie as tie
 
@@ -23,10 +23,10 @@ shl-result : tie.Need-overflow-shl-result
 shl-result c = search rules
 
 cast-result : tie.Need-overflow-cast-result
-cast-result c = record { fits = placed-byte _ _ _ _ (small c) c.requires.0 c.requires.1 }
+cast-result c = record { fits = placed_byte _ _ _ _ (small c) c.requires.0 c.requires.1 }
 
 returns : tie.Need-returns
-returns c = placed-bits _ _ _ _ (small c) c.requires.0 c.requires.1
+returns c = placed_bits _ _ _ _ (small c) c.requires.0 c.requires.1
 
 pub placed-spec : {M : Type 1} → statement M
 placed-spec =

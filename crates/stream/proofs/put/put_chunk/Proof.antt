@@ -1,6 +1,6 @@
 use borrow.Author.Rules.{rules}
 use native.Mathlib.Omega.{arith}
-use Rattle.stream.proofs.Placing.{chunk-put}
+use Rattle.stream.proofs.Placing.{chunk_put}
 use Rattle.stream.proofs.put.put_chunk.Statement.{statement}
 use Rattle.stream.proofs.put.put_chunk.Tie as tie
 
@@ -17,7 +17,7 @@ same_length : tie.Need-same-length
 same_length c = search rules
 
 returns : tie.Need-returns
-returns c = chunk-put _ _ _ _ _ (omega arith) (omega arith) (omega arith) c.placed.ensures
+returns c = chunk_put _ _ _ _ _ (omega arith) (omega arith) (omega arith) c.placed.ensures
 
 pub put-chunk-spec : {M : Type 1} → statement M
 put-chunk-spec =

@@ -4,8 +4,8 @@ use Prim.Native.Nat.{◌+◌, ◌-◌, ◌/◌, ◌^◌, ◌≤◌}
 use native.Mathlib.Omega.{arith}
 use lib.ListN.{length}
 use Rattle.stream.specs.Bits.{bits_of, bits, replaced}
-use Rattle.stream.proofs.Bytes.{length-bits}
-use Rattle.stream.proofs.Placing.{none-put, more-put, all-put}
+use Rattle.stream.proofs.Bytes.{length_bits}
+use Rattle.stream.proofs.Placing.{none_put, more_put, all_put}
 use Rattle.stream.proofs.put.put_field.Statement.{statement}
 use Rattle.stream.proofs.put.put_field.Tie as tie
 
@@ -18,7 +18,7 @@ abbrev decreases-loop : tie.decreases-loop
 decreases-loop buf₀ at value n left₀ p₀ buf left p = left
 
 loop-holds : tie.Need-loop-init invariant-loop decreases-loop
-loop-holds c = (search rules, omega arith, search rules, none-put _ _ _ _ (omega arith))
+loop-holds c = (search rules, omega arith, search rules, none_put _ _ _ _ (omega arith))
 
 put-some-requires : tie.Need-put-some-requires invariant-loop decreases-loop
 put-some-requires c κs = search rules
@@ -38,14 +38,14 @@ loop-again c =
       search rules,
       omega arith,
       omega arith,
-      more-put _ _ _ _ _ _ _ _ _ (rw length-bits (omega arith)) (omega arith) (omega arith) loop.invariant.1 loop.invariant.3 c.before.before.put_some_lem.ensures.1,
+      more_put _ _ _ _ _ _ _ _ _ (rw length_bits (omega arith)) (omega arith) (omega arith) loop.invariant.1 loop.invariant.3 c.before.before.put_some_lem.ensures.1,
     )
 
 same_length : tie.Need-same-length invariant-loop decreases-loop
 same_length c = search rules
 
 returns : tie.Need-returns invariant-loop decreases-loop
-returns c = all-put _ _ _ _ _ _ (omega arith) c.before.loop.invariant.3
+returns c = all_put _ _ _ _ _ _ (omega arith) c.before.loop.invariant.3
 
 pub put-field-spec : {M : Type 1} → statement M
 put-field-spec =

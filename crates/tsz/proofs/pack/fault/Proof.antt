@@ -1,5 +1,5 @@
 use borrow.Author.Rules.{rules}
-use Rattle.tsz.proofs.FileLaws.{fault-none, fault-some}
+use Rattle.tsz.proofs.FileLaws.{fault_none, fault_some}
 use Rattle.tsz.proofs.pack.fault.Statement.{statement}
 use Rattle.tsz.proofs.pack.fault.Tie as tie
 
@@ -16,10 +16,10 @@ cast-result : tie.Need-overflow-cast-result
 cast-result c = search rules
 
 returns : tie.Need-returns
-returns c = fault-none _ c.enum_told.given.1
+returns c = fault_none _ c.enum_told.given.1
 
 returns-2 : tie.Need-returns-2
-returns-2 c = fault-some _ _ _ c.before.before.answer.given.1 c.number.ensures
+returns-2 c = fault_some _ _ _ c.before.before.answer.given.1 c.number.ensures
 
 pub fault-spec : {M : Type 1} → statement M
 fault-spec =

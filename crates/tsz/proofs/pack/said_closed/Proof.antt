@@ -1,5 +1,5 @@
 use borrow.Author.Rules.{rules}
-use Rattle.tsz.proofs.FileLaws.{used-said, none_said}
+use Rattle.tsz.proofs.FileLaws.{used_said, none_said}
 use Rattle.tsz.proofs.pack.said_closed.Statement.{statement}
 use Rattle.tsz.proofs.pack.said_closed.Tie as tie
 
@@ -16,7 +16,7 @@ enum_told : tie.Need-enum-told
 enum_told c = search rules
 
 returns : tie.Need-returns
-returns c = used-said _ _ _ _ _ _ _ c.before.before.before.answer.given.1 c.before.get.ensures c.get2.ensures
+returns c = used_said _ _ _ _ _ _ _ c.before.before.before.answer.given.1 c.before.get.ensures c.get2.ensures
 
 returns-2 : tie.Need-returns-2
 returns-2 c = none_said _ _ _ _ c.enum_told.given.1

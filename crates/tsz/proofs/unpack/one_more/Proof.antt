@@ -1,6 +1,6 @@
 use borrow.Author.Rules.{rules}
 use mathlib.Core.Path.{refl}
-use Rattle.tsz.proofs.FileLaws.{more-stop, more-full}
+use Rattle.tsz.proofs.FileLaws.{more_stop, more_full}
 use Rattle.tsz.proofs.unpack.one_more.Statement.{statement}
 use Rattle.tsz.proofs.unpack.one_more.Tie as tie
 
@@ -23,10 +23,10 @@ new-requires : tie.Need-new-requires
 new-requires c κs = search rules
 
 returns : tie.Need-returns
-returns c k q = more-stop _ _ _ _ _ _ _ _ _ _ c.before.before.before.before.before.unpack-some.ensures refl refl _ c.before.answer.given.1 k q
+returns c k q = more_stop _ _ _ _ _ _ _ _ _ _ c.before.before.before.before.before.unpack-some.ensures refl refl _ c.before.answer.given.1 k q
 
 returns-2 : tie.Need-returns-2
-returns-2 c k q = more-full _ _ _ _ _ _ _ _ _ _ c.before.before.before.before.before.unpack-some.ensures refl refl _ _ _ c.before.enum_told.given.1 k q
+returns-2 c k q = more_full _ _ _ _ _ _ _ _ _ _ c.before.before.before.before.before.unpack-some.ensures refl refl _ _ _ c.before.enum_told.given.1 k q
 
 pub one-more-spec : {M : Type 1} → statement M
 one-more-spec =

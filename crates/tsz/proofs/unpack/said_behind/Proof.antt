@@ -1,5 +1,5 @@
 use borrow.Author.Rules.{rules}
-use Rattle.tsz.proofs.FileLaws.{said-end, said-refusal, said-short}
+use Rattle.tsz.proofs.FileLaws.{said_end, said_refusal, said_short}
 use Rattle.tsz.proofs.unpack.said_behind.Statement.{statement}
 use Rattle.tsz.proofs.unpack.said_behind.Tie as tie
 
@@ -28,13 +28,13 @@ said-at-requires-3 : tie.Need-said-at-requires-3
 said-at-requires-3 c κs = search rules
 
 returns : tie.Need-returns
-returns c = said-end _ _ _ _ _ c.Said-at.ensures c.before.before.answer.given.1
+returns c = said_end _ _ _ _ _ c.Said-at.ensures c.before.before.answer.given.1
 
 returns-2 : tie.Need-returns-2
-returns-2 c = said-refusal _ _ _ _ _ _ c.said-at2.ensures c.before.before.before.answer2.given.1 c.before.number.ensures
+returns-2 c = said_refusal _ _ _ _ _ _ c.said-at2.ensures c.before.before.before.answer2.given.1 c.before.number.ensures
 
 returns-3 : tie.Need-returns-3
-returns-3 c = said-short _ _ _ _ _ _ c.said-at3.ensures c.before.enum_told.given.1
+returns-3 c = said_short _ _ _ _ _ _ c.said-at3.ensures c.before.enum_told.given.1
 
 pub said-behind-spec : {M : Type 1} → statement M
 said-behind-spec =

@@ -1,5 +1,5 @@
 use Rattle.std.proofs.Common.{sym, ◌∙◌, rules}
-use Rattle.decode.proofs.CallLaws.{found-stepped, every-state, said-at-once, reads_on}
+use Rattle.decode.proofs.CallLaws.{found_stepped, every_state, said_at_once, reads_on}
 use Rattle.decode.proofs.std_decoder.StdDecoder.next.Statement.{statement}
 use Rattle.decode.proofs.std_decoder.StdDecoder.next.Tie as tie
 
@@ -19,14 +19,14 @@ take-requires : tie.Need-take-requires
 take-requires c κs = search rules
 
 returns : tie.Need-returns
-returns c = said-at-once _ _ _ c.before.before.before.at_once.ensures _ c.before.phase.given.1 _
+returns c = said_at_once _ _ _ c.before.before.before.at_once.ensures _ c.before.phase.given.1 _
 
 returns-2 : tie.Need-returns-2
 returns-2 c =
     let k = reads_on _ _ _ c.before.before.before.before.at_once.ensures c.before.before.enum_told.given.1 in
     c.take.ensures
-    ∙ found-stepped _ _ _ c.before.look.ensures
-    ∙ sym ((every-state 6 _ _ _).goesOn k.0 k.1)
+    ∙ found_stepped _ _ _ c.before.look.ensures
+    ∙ sym ((every_state 6 _ _ _).goes_on k.0 k.1)
 
 pub next-spec : {M : Type 1} → statement M
 next-spec =

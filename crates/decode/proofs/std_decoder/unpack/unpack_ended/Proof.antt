@@ -2,9 +2,9 @@ use Rattle.std.proofs.Common.{◌≡◌, ◌-◌, ◌≤◌, length, arith, rule
 use Rattle.stream.specs.Bits.{bits}
 use Rattle.decode.specs.States.{tell, view}
 use Rattle.decode.specs.Calls.{next_of}
-use Rattle.decode.specs.Lists.{unpacksOf}
-use Rattle.decode.specs.Filling.{fillingFrom}
-use Rattle.decode.proofs.Unpacks.{from_first, told-as, put_in, at-end, at-refusal, all-full}
+use Rattle.decode.specs.Lists.{unpacks_of}
+use Rattle.decode.specs.Filling.{filling_from}
+use Rattle.decode.proofs.Unpacks.{from_first, told_as, put_in, at_end, at_refusal, all_full}
 use Rattle.decode.proofs.std_decoder.unpack.unpack_ended.Statement.{statement}
 use Rattle.decode.proofs.std_decoder.unpack.unpack_ended.Tie as tie
 
@@ -12,7 +12,7 @@ abbrev invariant-loop : tie.invariant-loop
 invariant-loop d buf answer₀ times₀ values₀ n i₀ answer times values i =
     (i ≤ n) × (length times ≡ length times₀) × (length values ≡ length values₀) × (n ≤ length times₀) × (n ≤ length values₀)
     × ((tell answer, view d) ≡ next_of 6 (view d) (length buf) (bits buf))
-    × (fillingFrom i times values (unpacksOf 6 (n - i) (view d) (length buf) (bits buf)) ≡ fillingFrom 0 times₀ values₀ (unpacksOf 6 n (view d) (length buf) (bits buf)))
+    × (filling_from i times values (unpacks_of 6 (n - i) (view d) (length buf) (bits buf)) ≡ filling_from 0 times₀ values₀ (unpacks_of 6 n (view d) (length buf) (bits buf)))
 
 abbrev decreases-loop : tie.decreases-loop
 decreases-loop d buf answer₀ times₀ values₀ n i₀ answer times values i = n - i
@@ -34,7 +34,7 @@ same-length-2 c = search rules
 
 returns : tie.Need-returns invariant-loop decreases-loop
 returns c = let loop = c.before.before.before.loop in
-    at-end _ _ _ _ _ _ _ _ _ _ loop.invariant.5 loop.invariant.6 _ c.enum_told.given.1 (omega arith)
+    at_end _ _ _ _ _ _ _ _ _ _ loop.invariant.5 loop.invariant.6 _ c.enum_told.given.1 (omega arith)
 
 enum-told-2 : tie.Need-enum-told-2 invariant-loop decreases-loop
 enum-told-2 c = search rules
@@ -47,7 +47,7 @@ same-length-4 c = search rules
 
 returns-2 : tie.Need-returns-2 invariant-loop decreases-loop
 returns-2 c = let loop = c.before.before.before.loop in
-    at-refusal _ _ _ _ _ _ _ _ _ _ loop.invariant.5 loop.invariant.6 _ c.enum-told2.given.1 (omega arith)
+    at_refusal _ _ _ _ _ _ _ _ _ _ loop.invariant.5 loop.invariant.6 _ c.enum-told2.given.1 (omega arith)
 
 enum-known-answer : tie.Need-enum-known-answer invariant-loop decreases-loop
 enum-known-answer c = search rules
@@ -69,7 +69,7 @@ loop-less c = search rules
 
 loop-again : tie.Need-loop-preserved invariant-loop decreases-loop
 loop-again c = let loop = c.before.before.before.before.loop in
-    (search rules, search rules, search rules, search rules, search rules, told-as _ _ _ _ loop.invariant.5 c.before.answer.given.1, put_in _ _ _ _ _ _ _ _ _ _ loop.invariant.5 loop.invariant.6 _ _ c.before.answer.given.1 (omega arith) (omega arith) (omega arith))
+    (search rules, search rules, search rules, search rules, search rules, told_as _ _ _ _ loop.invariant.5 c.before.answer.given.1, put_in _ _ _ _ _ _ _ _ _ _ loop.invariant.5 loop.invariant.6 _ _ c.before.answer.given.1 (omega arith) (omega arith) (omega arith))
 
 same-length-5 : tie.Need-same-length-5 invariant-loop decreases-loop
 same-length-5 c = search rules
@@ -79,7 +79,7 @@ same-length-6 c = search rules
 
 returns-3 : tie.Need-returns-3 invariant-loop decreases-loop
 returns-3 c = let loop = c.before.loop in
-    all-full _ _ _ _ _ _ _ _ loop.invariant.6 (omega arith)
+    all_full _ _ _ _ _ _ _ _ loop.invariant.6 (omega arith)
 
 pub unpack-ended-spec : {M : Type 1} → statement M
 unpack-ended-spec =

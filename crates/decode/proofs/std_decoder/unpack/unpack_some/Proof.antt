@@ -1,6 +1,6 @@
 use Rattle.std.proofs.Common.{◌∙◌, arith, rules}
-use Rattle.decode.proofs.CallLaws.{said-at-once, reads_on}
-use Rattle.decode.proofs.Unpacks.{none_before, at-start, filled, all-full}
+use Rattle.decode.proofs.CallLaws.{said_at_once, reads_on}
+use Rattle.decode.proofs.Unpacks.{none_before, at_start, filled, all_full}
 use Rattle.decode.proofs.std_decoder.unpack.unpack_some.Statement.{statement}
 use Rattle.decode.proofs.std_decoder.unpack.unpack_some.Tie as tie
 
@@ -14,7 +14,7 @@ same-length-2 : tie.Need-same-length-2
 same-length-2 c = search rules
 
 returns : tie.Need-returns
-returns c = filled _ _ _ _ _ _ _ (all-full _ _ _ _ _ _ _ _ (at-start _ _ _ _ _ _) (omega arith)) c.before.points-in.ensures
+returns c = filled _ _ _ _ _ _ _ (all_full _ _ _ _ _ _ _ _ (at_start _ _ _ _ _ _) (omega arith)) c.before.points-in.ensures
 
 at-once-requires : tie.Need-at-once-requires
 at-once-requires c κs = search rules
@@ -23,7 +23,7 @@ enum-known-phase : tie.Need-enum-known-phase
 enum-known-phase c = search rules
 
 unpack-ended-requires : tie.Need-unpack-ended-requires
-unpack-ended-requires c κs = ((omega arith, omega (arith, c.before.before.before.before.before.before.before.points-in.ensures), omega (arith, c.before.before.before.before.before.before.before.points-in.ensures)), said-at-once _ _ _ c.before.before.before.before.before.at_once.ensures _ c.before.before.before.phase.given.1 _)
+unpack-ended-requires c κs = ((omega arith, omega (arith, c.before.before.before.before.before.before.before.points-in.ensures), omega (arith, c.before.before.before.before.before.before.before.points-in.ensures)), said_at_once _ _ _ c.before.before.before.before.before.at_once.ensures _ c.before.before.before.phase.given.1 _)
 
 enum_told : tie.Need-enum-told
 enum_told c = search rules
@@ -61,7 +61,7 @@ same-length-8 : tie.Need-same-length-8
 same-length-8 c = search rules
 
 returns-4 : tie.Need-returns-4
-returns-4 c = filled _ _ _ _ _ _ _ (c.before.before.before.before.unpack-later.ensures ∙ at-start _ _ _ _ _ _) c.before.before.before.before.before.before.before.before.before.before.before.before.points-in.ensures
+returns-4 c = filled _ _ _ _ _ _ _ (c.before.before.before.before.unpack-later.ensures ∙ at_start _ _ _ _ _ _) c.before.before.before.before.before.before.before.before.before.before.before.before.points-in.ensures
 
 pub unpack-some-spec : {M : Type 1} → statement M
 unpack-some-spec =

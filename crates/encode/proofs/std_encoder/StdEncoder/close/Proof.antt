@@ -1,5 +1,5 @@
 use borrow.Author.Rules.{rules}
-use Rattle.encode.proofs.CallLaws.{is-clear, is-refused, close-refused}
+use Rattle.encode.proofs.CallLaws.{is_clear, is_refused, close_refused}
 use Rattle.encode.proofs.std_encoder.StdEncoder.close.Statement.{statement}
 use Rattle.encode.proofs.std_encoder.StdEncoder.close.Tie as tie
 
@@ -13,10 +13,10 @@ enum_told : tie.Need-enum-told
 enum_told c = search rules
 
 finish-requires : tie.Need-finish-requires
-finish-requires c κs = is-clear _ _ c.before.before.before.standing-of.ensures c.before.enum_told.given.1
+finish-requires c κs = is_clear _ _ c.before.before.before.standing-of.ensures c.before.enum_told.given.1
 
 returns : tie.Need-returns
-returns c = close-refused 6 _ _ _ c.before.standing.given.0.0 (is-refused _ _ _ c.before.before.before.standing-of.ensures c.before.standing.given.1)
+returns c = close_refused 6 _ _ _ c.before.standing.given.0.0 (is_refused _ _ _ c.before.before.before.standing-of.ensures c.before.standing.given.1)
 
 same_length : tie.Need-same-length
 same_length c = search rules

@@ -1,6 +1,6 @@
 use mathlib.Core.Path.{◌∙◌}
 use borrow.Author.Rules.{rules}
-use Rattle.encode.proofs.CallLaws.{is-clear, is-refused, with-bits, refused-standing}
+use Rattle.encode.proofs.CallLaws.{is_clear, is_refused, with_bits, refused_standing}
 use Rattle.encode.proofs.std_encoder.StdEncoder.encode.Statement.{statement}
 use Rattle.encode.proofs.std_encoder.StdEncoder.encode.Tie as tie
 
@@ -17,10 +17,10 @@ enum_told : tie.Need-enum-told
 enum_told c = search rules
 
 offer-requires : tie.Need-offer-requires
-offer-requires c κs = is-clear _ _ c.before.before.before.standing-of.ensures c.before.enum_told.given.1
+offer-requires c κs = is_clear _ _ c.before.before.before.standing-of.ensures c.before.enum_told.given.1
 
 returns : tie.Need-returns
-returns c = with-bits _ _ _ _ _ c.refuse.ensures ∙ refused-standing 6 _ _ _ _ c.before.before.standing.given.0.0 (is-refused _ _ _ c.before.before.before.before.standing-of.ensures c.before.before.standing.given.1)
+returns c = with_bits _ _ _ _ _ c.refuse.ensures ∙ refused_standing 6 _ _ _ _ c.before.before.standing.given.0.0 (is_refused _ _ _ c.before.before.before.before.standing-of.ensures c.before.before.standing.given.1)
 
 same_length : tie.Need-same-length
 same_length c = search rules

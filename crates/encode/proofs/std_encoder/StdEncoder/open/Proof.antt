@@ -3,7 +3,7 @@ use native.Mathlib.Omega.{arith}
 use borrow.Author.Rules.{rules}
 use Rattle.stream.specs.declared.refusal.Refusal.TheVariants.{TooLong, NoRoom}
 use Rattle.encode.specs.Parts.{word_of}
-use Rattle.encode.proofs.CallLaws.{with-bits, open-faults, open-refused, opened}
+use Rattle.encode.proofs.CallLaws.{with_bits, open_faults, open_refused, opened}
 use Rattle.encode.proofs.std_encoder.StdEncoder.open.Statement.{statement}
 use Rattle.encode.proofs.std_encoder.StdEncoder.open.Tie as tie
 
@@ -11,13 +11,13 @@ never-opened-requires : tie.Need-never-opened-requires
 never-opened-requires c κs = search rules
 
 returns : tie.Need-returns
-returns c = with-bits _ _ _ _ _ c.never-opened.ensures ∙ open-refused _ _ _ TooLong ((open-faults _).tooLong (omega arith))
+returns c = with_bits _ _ _ _ _ c.never-opened.ensures ∙ open_refused _ _ _ TooLong ((open_faults _).too_long (omega arith))
 
 never-opened-requires-2 : tie.Need-never-opened-requires-2
 never-opened-requires-2 c κs = search rules
 
 returns-2 : tie.Need-returns-2
-returns-2 c = with-bits _ _ _ _ _ c.never-opened2.ensures ∙ open-refused _ _ _ NoRoom ((open-faults _).noRoom (omega arith) (omega arith))
+returns-2 c = with_bits _ _ _ _ _ c.never-opened2.ensures ∙ open_refused _ _ _ NoRoom ((open_faults _).no_room (omega arith) (omega arith))
 
 new-requires : tie.Need-new-requires
 new-requires c κs = search rules
@@ -37,7 +37,7 @@ returns-3 c =
     let s = c.before.before.before.before.before.before.before.before.before in
     let p = c.before.before.before.put.ensures in
     let zero = c.before.before.before.before.before.new.ensures in
-    opened _ _ _ _ _ _ ((open-faults _).opens (omega arith) (omega arith)) c.new2.ensures (omega (arith, p.0, zero)) (rw zero at p).1
+    opened _ _ _ _ _ _ ((open_faults _).opens (omega arith) (omega arith)) c.new2.ensures (omega (arith, p.0, zero)) (rw zero at p).1
 
 pub open_spec : {M : Type 1} → statement M
 open_spec =

@@ -37,7 +37,7 @@ use denote.Triple.Table.{entered, cited}
 use denote.Triple.Walked.{says, Stays, stay_none, walk_of, Goes-none, Walks, ends_at, walked, walk_Meets}
 use denote.Exit.{yes}
 use denote.Triple.Clauses.{ensured, lasts}
-use Rattle.stream.specs.Calls.{tellBits, peekOf}
+use Rattle.stream.specs.Calls.{tell_bits, peek_of}
 use Rattle.stream.specs.declared.buffered_read.BitsAnswer.{BitsAnswer}
 use Rattle.stream.specs.contracts.buffered_read.BitsAnswer as S
 use Rattle.stream.proofs.buffered_read.BitsAnswer.TheLaws as S'
@@ -90,7 +90,7 @@ module _ {M : Type 1} {𝓤 : Ura M} (𝓛 : Logic 𝓤) (mem : Memory → SProp
   to = (((κ, tt), (q, tt), tt, (h.bytes, (h.at, (n, tt))), held.three h.bytes h.at n), tt)
 
   abbrev Says : BitsAnswer → Type 0
-  Says a = tellBits a ≡ (peekOf h.bytes.now h.at.0 n).0
+  Says a = tell_bits a ≡ (peek_of h.bytes.now h.at.0 n).0
 
   asked : ent 𝓤 (on_entry 𝓛 ahead.signature (κ, tt) (q, tt) (h.bytes, (h.at, (n, tt))) (held.three h.bytes h.at n)) ((Ahead 𝓛 mem run).pre to)
   asked = qed 𝓛 ((‵ (flft κ q) ⊛ ‵ ftrue) ∷ ‵ (held.Three (α (κ, tt)) h.bytes h.at n) ∷ []) ∵ join ! $ frame ! $ done !

@@ -47,8 +47,8 @@ use Rattle.stream.specs.contracts.position.BitPos as P
 use Rattle.stream.proofs.position.BitPos.TheLaws as P'
 use Rattle.stream.specs.contracts.buffered_read.BitsAnswer as N
 use Rattle.stream.proofs.buffered_read.BitsAnswer.TheLaws as N'
-use Rattle.lent.specs.Calls.{toldHeld, held_of}
-use Rattle.lent.specs.Parts.{toldPlaced}
+use Rattle.lent.specs.Calls.{told_held, held_of}
+use Rattle.lent.specs.Parts.{told_placed}
 use Rattle.lent.specs.declared.held_reader.HeldReader.{HeldReader}
 use Rattle.lent.specs.declared.held_reader.Placed.{Placed}
 use Rattle.lent.proofs.Held as held
@@ -112,7 +112,7 @@ module _ {M : Type 1} {𝓤 : Ura M} (𝓛 : Logic 𝓤) (at_mem : Memory → SP
   to = (((κ', tt), (q', tt), tt, (h.bytes, (h.at, (n, tt))), held.three h.bytes h.at n), tt)
 
   abbrev Says : Placed → Type 0
-  Says d = toldPlaced d ≡ read_of h.bytes.now h.at.0 n
+  Says d = told_placed d ≡ read_of h.bytes.now h.at.0 n
 
   goes : ent 𝓤 (on_entry 𝓛 work.signature (κ', tt) (q', tt) (h.bytes, (h.at, (n, tt))) (held.three h.bytes h.at n)) ((Work 𝓛 at_mem run).pre to)
   goes = qed 𝓛 ((‵ (flft κ' q') ⊛ ‵ ftrue) ∷ ‵ (held.Three (α κ') h.bytes h.at n) ∷ []) ∵ join ! $ frame ! $ done !
@@ -121,7 +121,7 @@ module _ {M : Type 1} {𝓤 : Ura M} (𝓛 : Logic 𝓤) (at_mem : Memory → SP
   said d = ex_e 𝓤 _ (λ ws. snd∗ 𝓤 (sem 𝓛 (lasts work.ended (κ', tt) (h.bytes, (h.at, (n, tt))) ws)) (fact 𝓤 (Says d)))
 
   -- the contract's equation: the bytes stay, and the rest is the callee's
-  told : (d : Placed) → Says d → toldHeld d.answer (h' d.at) ≡ held_of h n
+  told : (d : Placed) → Says d → told_held d.answer (h' d.at) ≡ held_of h n
   told d e = λ i. ((e i).0, (e i).1, h.bytes)
 
   exits : (d : Placed) → Says d → Is N.the_row d.answer (EL.val N.the_type N'.the_laws d.answer ∷ [])

@@ -4,7 +4,7 @@ use mathlib.Core.List.{[], ◌∷◌}
 use Prim.Native.Nat.{ℕ}
 use native.Mathlib.Omega.{arith}
 use Rattle.stream.specs.Calls.{given}
-use Rattle.stream.proofs.Outcomes.{ahead-is, ahead_none}
+use Rattle.stream.proofs.Outcomes.{ahead_is, ahead_none}
 use Rattle.stream.proofs.buffered_read.BufferedReader.ahead.Statement.{statement}
 use Rattle.stream.proofs.buffered_read.BufferedReader.ahead.Tie as tie
 
@@ -15,7 +15,7 @@ word-from-requires : tie.Need-word-from-requires
 word-from-requires c κs = search rules
 
 returns : tie.Need-returns
-returns c = ap (λ (w : ℕ). given (w ∷ [])) c.word-from.ensures ∙ sym (ahead-is _ _ (omega arith))
+returns c = ap (λ (w : ℕ). given (w ∷ [])) c.word-from.ensures ∙ sym (ahead_is _ _ (omega arith))
 
 returns-2 : tie.Need-returns-2
 returns-2 c = sym (ahead_none _ _ (omega arith))

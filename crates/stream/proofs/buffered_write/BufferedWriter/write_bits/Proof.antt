@@ -1,8 +1,8 @@
 use borrow.Author.Rules.{rules}
 use mathlib.Core.Path.{sym, ap, ◌∙◌}
 use native.Mathlib.Omega.{arith}
-use Rattle.stream.specs.Fits.{faultOf}
-use Rattle.stream.proofs.Outcomes.{no-fault, fits, wrote-not, wrote}
+use Rattle.stream.specs.Fits.{fault_of}
+use Rattle.stream.proofs.Outcomes.{no_fault, fits, wrote_not, wrote}
 use Rattle.stream.proofs.buffered_write.BufferedWriter.write_bits.Statement.{statement}
 use Rattle.stream.proofs.buffered_write.BufferedWriter.write_bits.Tie as tie
 
@@ -20,18 +20,18 @@ enum_told c = search rules
 
 put-field-requires : tie.Need-put-field-requires
 put-field-requires c κs =
-    let k = fits 1 _ _ _ (omega arith) (no-fault _ _ c.before.enum_told.given.1 c.before.before.before.fit_of.ensures) in
+    let k = fits 1 _ _ _ (omega arith) (no_fault _ _ c.before.enum_told.given.1 c.before.before.before.fit_of.ensures) in
     (k.0, (omega arith, k.1))
 
 add-end : tie.Need-overflow-add-end
 add-end c =
-    let k = fits 1 _ _ _ (omega arith) (no-fault _ _ c.before.before.before.before.enum_told.given.1 c.before.before.before.before.before.before.fit_of.ensures) in
+    let k = fits 1 _ _ _ (omega arith) (no_fault _ _ c.before.before.before.before.enum_told.given.1 c.before.before.before.before.before.before.fit_of.ensures) in
     omega arith
 
 returns : tie.Need-returns
 returns c =
     let b = c.before.before.before in
-    wrote-not _ _ _ _ _ b.before.width_of.ensures c.before.f.given.0.0 (ap faultOf (sym c.before.f.given.1) ∙ b.fit_of.ensures)
+    wrote_not _ _ _ _ _ b.before.width_of.ensures c.before.f.given.0.0 (ap fault_of (sym c.before.f.given.1) ∙ b.fit_of.ensures)
 
 same_length : tie.Need-same-length
 same_length c = search rules
@@ -39,7 +39,7 @@ same_length c = search rules
 returns-2 : tie.Need-returns-2
 returns-2 c =
     let told = c.before.before.before.before in
-    wrote _ _ _ _ _ told.before.before.before.width_of.ensures _ (no-fault _ _ told.enum_told.given.1 told.before.before.fit_of.ensures) c.before.before.put-field.ensures
+    wrote _ _ _ _ _ told.before.before.before.width_of.ensures _ (no_fault _ _ told.enum_told.given.1 told.before.before.fit_of.ensures) c.before.before.put-field.ensures
 
 pub write-bits-spec : {M : Type 1} → statement M
 write-bits-spec =
