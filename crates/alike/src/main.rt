@@ -1,6 +1,8 @@
 // A test: points of every kind of value, each with each: whether they are alike, how they are ordered, and what comes back of their bits. What
 // it must print was worked out by other code (oracle/alike.py).
 
+#![tactic(auto)]
+
 use libc::STDOUT_FILENO;
 use point::{DataPoint, Ordering, Stored};
 

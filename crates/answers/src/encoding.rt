@@ -9,14 +9,14 @@ use point::Stored;
 use stream::Refusal;
 
 // A point read off a line, and the place behind it.
-#[derive(Drop)]
+#[derive(Clone, Copy)]
 enum Word {
     Point(Stored, usize),
     NoPoint,
 }
 
 // How an encoder stands: more may be offered, all was offered, a word is no point, or a call was refused.
-#[derive(Drop)]
+#[derive(Clone, Copy)]
 enum Outcome {
     Going,
     Ended,
@@ -24,7 +24,7 @@ enum Outcome {
     Refused(Refusal),
 }
 
-#[derive(Drop)]
+#[derive(Clone, Copy)]
 struct Sitting {
     outcome: Outcome,
     encoder: StdEncoder,

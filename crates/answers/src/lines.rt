@@ -3,13 +3,13 @@
 use libc::STDIN_FILENO;
 
 // What was read and not yet taken: piece[at..n].
-#[derive(Drop)]
+#[derive(Clone, Copy)]
 pub(super) struct Source {
     at: usize,
     n: usize,
 }
 
-#[derive(Drop)]
+#[derive(Clone, Copy)]
 enum Got {
     Byte(u8),
     End,
@@ -17,14 +17,14 @@ enum Got {
 }
 
 // A byte, and the source behind it.
-#[derive(Drop)]
+#[derive(Clone, Copy)]
 struct Pulled {
     got: Got,
     source: Source,
 }
 
 // A line of so many bytes, without its line feed; one that is longer than the buffer for it; the end of the input; or a read that failed.
-#[derive(Drop)]
+#[derive(Clone, Copy)]
 pub(super) enum Line {
     Bytes(usize),
     Longer,
@@ -32,7 +32,7 @@ pub(super) enum Line {
     Failed,
 }
 
-#[derive(Drop)]
+#[derive(Clone, Copy)]
 pub(super) struct Taken {
     pub(super) line: Line,
     pub(super) source: Source,

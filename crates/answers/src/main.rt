@@ -5,6 +5,8 @@
 // if it is another, and behind the last line stands how many were as recorded. A line `CASE ~ ANSWER` is the same to this program: it ends in
 // refusal 9, 10 or 11, which the Rust has not.
 
+#![tactic(auto)]
+
 mod buffers;
 mod case;
 mod decoding;
@@ -46,7 +48,7 @@ fn room(out: &[u8], used: usize) -> usize
 }
 
 // Where the page ends, and the count of the answers on record.
-#[derive(Drop)]
+#[derive(Clone, Copy)]
 struct Turn {
     used: usize,
     count: Count,
@@ -113,7 +115,7 @@ fn write_last(out: &mut [u8], used: usize, count: Count)
 }
 
 // A run: whether it goes on, the page, the count, and what is left of the input.
-#[derive(Drop)]
+#[derive(Clone, Copy)]
 struct Run {
     going: bool,
     used: usize,

@@ -7,7 +7,7 @@ use stream::buffered_read::{BitAnswer, BitRead, BitsAnswer, BitsRead, ByteAnswer
 use stream::{BufferedReader, Refusal};
 
 // What a read answers, or that a word is no read.
-#[derive(Drop)]
+#[derive(Clone, Copy)]
 enum Answer {
     Number(u64),
     Refused(Refusal),
@@ -15,7 +15,7 @@ enum Answer {
 }
 
 // The answer, the reader after it, and the place behind the word.
-#[derive(Drop)]
+#[derive(Clone, Copy)]
 struct Turn {
     answer: Answer,
     reader: BufferedReader,

@@ -5,7 +5,7 @@ ghost use Rattle.std.specs.Prelude.{◌≤◌, length};
 use super::page;
 
 // How many answers were as recorded, and how many were not.
-#[derive(Drop)]
+#[derive(Clone, Copy)]
 pub(super) struct Count {
     kept: u64,
     other: u64,

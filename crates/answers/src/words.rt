@@ -1,7 +1,7 @@
 // The words of a line. A place in a line may lie behind its end, where no word is.
 
 // A number read off a line.
-#[derive(Drop)]
+#[derive(Clone, Copy)]
 pub(super) struct Number {
     // whether there is one
     pub(super) ok: bool,
@@ -13,7 +13,7 @@ pub(super) struct Number {
 }
 
 // The bytes that a word stands for: how many, and the place behind it.
-#[derive(Drop)]
+#[derive(Clone, Copy)]
 pub(super) struct Bytes {
     pub(super) ok: bool,
     pub(super) count: usize,

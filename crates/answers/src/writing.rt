@@ -7,7 +7,7 @@ use stream::buffered_write::{WriteAnswer, Written};
 use stream::{Bit, BufferedWriter, Refusal};
 
 // One write: of a bit, of a byte, or of a number's low bits.
-#[derive(Drop)]
+#[derive(Clone, Copy)]
 enum Write {
     Zero,
     One,
@@ -17,14 +17,14 @@ enum Write {
 }
 
 // A write read off a line, and the place behind it.
-#[derive(Drop)]
+#[derive(Clone, Copy)]
 struct Word {
     write: Write,
     at: usize,
 }
 
 // How a writer stands: more may be written, all was written, a word is no write, or a write was refused.
-#[derive(Drop)]
+#[derive(Clone, Copy)]
 enum Outcome {
     Going,
     Ended,
@@ -32,7 +32,7 @@ enum Outcome {
     Refused(Refusal),
 }
 
-#[derive(Drop)]
+#[derive(Clone, Copy)]
 struct Sitting {
     outcome: Outcome,
     writer: BufferedWriter,

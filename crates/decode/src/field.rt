@@ -10,7 +10,7 @@ use stream::{BitPos, BufferedReader};
 
 // A reader with what is known of the bits behind it: the next `have` are the highest of the word, whose other bits are zero. A field that lies
 // in them is a shift away. The count is as wide as the word, since a smaller one leaves a gap in the struct that is copied about.
-#[derive(Drop)]
+#[derive(Clone, Copy)]
 pub struct Peeked {
     pub word: u64,
     pub have: usize,
@@ -18,7 +18,7 @@ pub struct Peeked {
 }
 
 // A field's number and what is behind it.
-#[derive(Drop)]
+#[derive(Clone, Copy)]
 pub enum Field {
     Short,
     Whole(u64, Peeked),

@@ -16,7 +16,7 @@ use super::value::{Value, read_next_value};
 use stream::{BufferedReader, Refusal};
 
 // What a decoder keeps between two points.
-#[derive(Drop)]
+#[derive(Clone, Copy)]
 pub struct Kept {
     pub time: u64,
     pub delta: u64,
@@ -26,7 +26,7 @@ pub struct Kept {
 }
 
 // A point, as what is kept of it, and what is behind it.
-#[derive(Drop)]
+#[derive(Clone, Copy)]
 pub enum Found {
     Refused(Refusal),
     End(BufferedReader),

@@ -1,5 +1,7 @@
 // The decoder: a state by value over a lent buffer, after the Rust's `decode/`.
 
+#![tactic(auto)]
+
 mod field;
 mod found;
 pub mod std_decoder;

@@ -15,7 +15,7 @@ use stream::{BitPos, BufferedReader, ByteCount, LIMIT, Refusal};
 pub mod unpack;
 
 // What a step answers: a point with the place behind it, the end with the place behind the marker, or a refusal.
-#[derive(Drop)]
+#[derive(Clone, Copy)]
 pub enum Step {
     Point(Stored, BitPos),
     End(BitPos),
@@ -23,14 +23,14 @@ pub enum Step {
 }
 
 // Whether a decoder still reads, or the answer that it ended with and repeats.
-#[derive(Drop)]
+#[derive(Clone, Copy)]
 pub enum Phase {
     Running,
     Ended(Step),
 }
 
 // As in the Rust, with the buffer's length at opening and, for its `done`, the answer to repeat.
-#[derive(Drop)]
+#[derive(Clone, Copy)]
 pub struct StdDecoder {
     time: u64,
     delta: u64,
@@ -44,21 +44,21 @@ pub struct StdDecoder {
 }
 
 // What an opening answers.
-#[derive(Drop)]
+#[derive(Clone, Copy)]
 pub enum OpenAnswer {
     Done,
     Refused(Refusal),
 }
 
 // The answer, and the decoder: before the start, or ended with the refusal.
-#[derive(Drop)]
+#[derive(Clone, Copy)]
 pub struct Opened {
     pub answer: OpenAnswer,
     pub decoder: StdDecoder,
 }
 
 // A step's answer, and the decoder after it.
-#[derive(Drop)]
+#[derive(Clone, Copy)]
 pub struct Next {
     pub answer: Step,
     pub decoder: StdDecoder,

@@ -14,7 +14,7 @@ use layout::row_at;
 use stream::{BufferedReader, Refusal};
 
 // A dod's field: its number, its bits, and what is behind it; or the end.
-#[derive(Drop)]
+#[derive(Clone, Copy)]
 pub enum Dod {
     Refused(Refusal),
     End(BufferedReader),
@@ -22,7 +22,7 @@ pub enum Dod {
 }
 
 // A time and the delta that led to it.
-#[derive(Drop)]
+#[derive(Clone, Copy)]
 pub enum Time {
     Refused(Refusal),
     Got { time: u64, delta: u64 },

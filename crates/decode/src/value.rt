@@ -12,7 +12,7 @@ use super::field::{Field, Peeked, get, get_digits};
 use stream::{BufferedReader, Refusal};
 
 // A value's bits, the window that gave them, and what is behind them.
-#[derive(Drop)]
+#[derive(Clone, Copy)]
 pub enum Value {
     Refused(Refusal),
     Got {
@@ -24,7 +24,7 @@ pub enum Value {
 }
 
 // What stands before a value's digits: that it has none, since it is the previous one, or its window and the reader before them.
-#[derive(Drop)]
+#[derive(Clone, Copy)]
 pub enum Head {
     Refused(Refusal),
     Same(Peeked),

@@ -13,14 +13,14 @@ use layout::Row;
 use stream::Refusal;
 
 // The len low bits of a number, the highest first. No higher bit is set.
-#[derive(Drop)]
+#[derive(Clone, Copy)]
 pub struct Code {
     pub bits: u64,
     pub len: u32,
 }
 
 // The code of a point: what stands before the digits of its value, at most 50 bits; the digits, at most 64; and the window after them.
-#[derive(Drop)]
+#[derive(Clone, Copy)]
 pub struct PointCode {
     pub head: Code,
     pub digits: Code,
@@ -29,7 +29,7 @@ pub struct PointCode {
 }
 
 // The code of a point, or why its time is refused.
-#[derive(Drop)]
+#[derive(Clone, Copy)]
 pub enum CodeAnswer {
     Code(PointCode),
     Refused(Refusal),

@@ -9,7 +9,7 @@ ghost use Rattle.encode.specs.Parts.{dod_for};
 use layout::{Row, row_at};
 
 // A dod, or none where it is out of range.
-#[derive(Drop)]
+#[derive(Clone, Copy)]
 pub enum Dod {
     In(i64),
     Out,

@@ -11,7 +11,7 @@ use point::Stored;
 use stream::Refusal;
 
 // What the code of a point depends on: the last point with the delta that led to it, and the window; before the first point its time is the start.
-#[derive(Drop)]
+#[derive(Clone, Copy)]
 pub struct Last {
     pub time: u64,
     pub delta: u64,

@@ -15,7 +15,7 @@ use super::std_encoder::{EncodeAnswer, Encoded, Standing, StdEncoder, offer, sta
 use point::{Stored, points_in};
 
 // How many points were accepted; that all were, or the refusal of the next one; and the encoder after it.
-#[derive(Drop)]
+#[derive(Clone, Copy)]
 pub struct Packed {
     pub accepted: usize,
     pub answer: EncodeAnswer,

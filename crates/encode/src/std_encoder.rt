@@ -17,7 +17,7 @@ use point::{DataPoint, Stored};
 use stream::{BitPos, BufferedWriter, ByteCount, LIMIT, Refusal};
 
 // As in the Rust, with the buffer's length at opening, and whether it is closed.
-#[derive(Drop)]
+#[derive(Clone, Copy)]
 pub struct StdEncoder {
     pub(super) time: u64,
     pub(super) delta: u64,
@@ -31,35 +31,35 @@ pub struct StdEncoder {
 }
 
 // What an opening and a point are answered.
-#[derive(Drop)]
+#[derive(Clone, Copy)]
 pub enum EncodeAnswer {
     Done,
     Refused(Refusal),
 }
 
 // What closing is answered: the bits and the bytes in use.
-#[derive(Drop)]
+#[derive(Clone, Copy)]
 pub enum CloseAnswer {
     Used(BitPos, ByteCount),
     Refused(Refusal),
 }
 
 // The answer, and the encoder after it: the one that was given, if a point was refused.
-#[derive(Drop)]
+#[derive(Clone, Copy)]
 pub struct Encoded {
     pub answer: EncodeAnswer,
     pub encoder: StdEncoder,
 }
 
 // The same of closing.
-#[derive(Drop)]
+#[derive(Clone, Copy)]
 pub struct Closing {
     pub answer: CloseAnswer,
     pub encoder: StdEncoder,
 }
 
 // Whether a state may go on.
-#[derive(Drop)]
+#[derive(Clone, Copy)]
 pub(super) enum Standing {
     Clear,
     Refused(Refusal),

@@ -2,6 +2,8 @@
 // call answered, the position after it and, for a write, the buffer's bytes. What it must print was worked out by other code
 // (oracle/fields.py). It writes each piece as it comes: it is no model of a program's output.
 
+#![tactic(auto)]
+
 use libc::STDOUT_FILENO;
 use stream::Bit;
 use stream::buffered_read::{

@@ -1,11 +1,13 @@
 // What both ends share: the rows in which a time's delta of delta is written, and which windows a state can't have.
 
+#![tactic(auto)]
+
 ghost use Rattle.std.specs.Prelude.{◌≡◌};
 ghost use Rattle.layout.specs.Rows as format;
 ghost use Rattle.layout.specs.Windows.{window, no_digit, bad_window};
 
 // A row: its control bits, the bits of its field, and the dods that it takes.
-#[derive(Drop)]
+#[derive(Clone, Copy)]
 pub struct Row {
     pub prefix: u64,
     pub prefix_len: u32,

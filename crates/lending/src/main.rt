@@ -2,6 +2,8 @@
 // by readers that hold their bytes, and it is decoded, whole and torn, by a decoder that is lent and changed in place. What it must print was worked out
 // by other code (oracle/lending.py).
 
+#![tactic(auto)]
+
 mod decoding;
 mod encoding;
 mod reading;

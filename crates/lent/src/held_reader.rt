@@ -9,14 +9,14 @@ use stream::buffered_read::BitsAnswer;
 use stream::{BitPos, BufferedReader};
 
 // The lent bytes, and where the next bit comes from.
-#[derive(Drop)]
+#[derive(Clone, Copy)]
 pub struct HeldReader<'a> {
     bytes: &'a [u8],
     at: BitPos,
 }
 
 // What two reads by one reader answer, and where it stands after them.
-#[derive(Drop)]
+#[derive(Clone, Copy)]
 pub struct TwoReads {
     pub first: BitsAnswer,
     pub second: BitsAnswer,
@@ -26,7 +26,7 @@ pub struct TwoReads {
 // ---- below the shape: the one bit reader, on a slice and a place
 
 // What a read answers, and the place after it: behind the field, or where it was if the read was refused.
-#[derive(Drop)]
+#[derive(Clone, Copy)]
 struct Placed {
     answer: BitsAnswer,
     at: BitPos,

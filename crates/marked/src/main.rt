@@ -1,6 +1,8 @@
 // A test: document 01's marked cases M1 to M10 and its others, encoded and decoded through the real calls. It prints what each call answered, and
 // the bytes. What it must print was worked out by other code (oracle/marked.py). Buffers start dirty, so that what is not cleared is seen.
 
+#![tactic(auto)]
+
 mod calls;
 mod say;
 mod series;

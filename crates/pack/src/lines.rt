@@ -10,7 +10,7 @@ const LONGEST: u32 = 1000;
 const DIGITS: u32 = 16;
 
 // What is wrong with a line.
-#[derive(Drop)]
+#[derive(Clone, Copy)]
 pub(super) enum Fault {
     Empty,
     NoDigit,
@@ -23,7 +23,7 @@ pub(super) enum Fault {
 }
 
 // What was read of a line.
-#[derive(Drop)]
+#[derive(Clone, Copy)]
 pub(super) struct Line {
     // how many bytes
     len: u32,
@@ -38,21 +38,21 @@ pub(super) struct Line {
 }
 
 // A line with one byte more, or what is wrong with it.
-#[derive(Drop)]
+#[derive(Clone, Copy)]
 pub(super) enum Read {
     Part(Line),
     Wrong(Fault),
 }
 
 // A line at its end: the point that it is, or what is wrong with it.
-#[derive(Drop)]
+#[derive(Clone, Copy)]
 pub(super) enum Whole {
     Point(Stored),
     Wrong(Fault),
 }
 
 // A number with one decimal digit more.
-#[derive(Drop)]
+#[derive(Clone, Copy)]
 pub(super) enum Sum {
     Number(u64),
     Above,

@@ -1,6 +1,8 @@
 // Packs points: reads lines `time,value` from standard input and writes the closed stream, of at most 65,536 bytes, to standard output. Where a
 // line is no point or its point is refused, it writes no stream and says why on standard error.
 
+#![tactic(auto)]
+
 mod lines;
 mod packing;
 mod say;

@@ -7,7 +7,7 @@ use libc::STDIN_FILENO;
 use stream::Refusal;
 
 // The encoder, the line that is read, and that line's number.
-#[derive(Drop)]
+#[derive(Clone, Copy)]
 pub(super) struct Packing {
     pub(super) encoder: StdEncoder,
     pub(super) line: Line,
@@ -15,7 +15,7 @@ pub(super) struct Packing {
 }
 
 // How it stands: more is to be read, all was read, a read failed, the line is no point, or its point was refused.
-#[derive(Drop)]
+#[derive(Clone, Copy)]
 pub(super) enum Verdict {
     Going,
     Ended,
@@ -24,7 +24,7 @@ pub(super) enum Verdict {
     Refused(Refusal),
 }
 
-#[derive(Drop)]
+#[derive(Clone, Copy)]
 pub(super) struct Turn {
     pub(super) verdict: Verdict,
     pub(super) packing: Packing,

@@ -2,7 +2,7 @@
 
 use super::lines::{Sum, with_decimal};
 
-#[derive(Drop)]
+#[derive(Clone, Copy)]
 pub(super) enum Start {
     At(u64),
     Bad,

@@ -1,24 +1,26 @@
 // A point of a series: a time and a value. As people handle it, a float; as the codec keeps it, the float's 64 bits.
 
+#![tactic(auto)]
+
 ghost use Rattle.std.specs.Prelude.{◌≡◌, min, length};
 ghost use Rattle.point.specs.Points.{new_of, same_of, time_order, to_stored, to_point};
 
 // A time and a value, as in the Rust. Round trips are about `Stored`, since a float here keeps no payload of a NaN.
-#[derive(Drop)]
+#[derive(Clone, Copy)]
 pub struct DataPoint {
     time: u64,
     value: f64,
 }
 
 // A time and the bits of a value: what streams hold.
-#[derive(Drop)]
+#[derive(Clone, Copy)]
 pub struct Stored {
     pub time: u64,
     pub bits: u64,
 }
 
 // How one point stands to another.
-#[derive(Drop)]
+#[derive(Clone, Copy)]
 pub enum Ordering {
     Less,
     Equal,

@@ -10,55 +10,55 @@ use super::position::BitPos;
 use super::refusal::Refusal;
 
 // Where the next bit comes from.
-#[derive(Drop)]
+#[derive(Clone, Copy)]
 pub struct BufferedReader {
     at: BitPos,
 }
 
 // What a read of one bit answers.
-#[derive(Drop)]
+#[derive(Clone, Copy)]
 pub enum BitAnswer {
     Bit(Bit),
     Refused(Refusal),
 }
 
 // What a read of a byte answers.
-#[derive(Drop)]
+#[derive(Clone, Copy)]
 pub enum ByteAnswer {
     Byte(u8),
     Refused(Refusal),
 }
 
 // What a read or a peek of bits answers.
-#[derive(Drop)]
+#[derive(Clone, Copy)]
 pub enum BitsAnswer {
     Bits(u64),
     Refused(Refusal),
 }
 
 // The next 64 bits, or that the nine bytes in which they may lie are not all there.
-#[derive(Drop)]
+#[derive(Clone, Copy)]
 pub enum Ahead {
     Short,
     Word(u64),
 }
 
 // The answer of a read of one bit, and the reader after it: behind the field, or where it stood if the read was refused.
-#[derive(Drop)]
+#[derive(Clone, Copy)]
 pub struct BitRead {
     pub answer: BitAnswer,
     pub reader: BufferedReader,
 }
 
 // The same of a byte.
-#[derive(Drop)]
+#[derive(Clone, Copy)]
 pub struct ByteRead {
     pub answer: ByteAnswer,
     pub reader: BufferedReader,
 }
 
 // The same of bits, and of a peek, after which the reader stands where it stood.
-#[derive(Drop)]
+#[derive(Clone, Copy)]
 pub struct BitsRead {
     pub answer: BitsAnswer,
     pub reader: BufferedReader,

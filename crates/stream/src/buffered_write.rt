@@ -10,20 +10,20 @@ use super::put::put_field;
 use super::refusal::Refusal;
 
 // Where the next bit goes.
-#[derive(Drop)]
+#[derive(Clone, Copy)]
 pub struct BufferedWriter {
     at: BitPos,
 }
 
 // What a write answers.
-#[derive(Drop)]
+#[derive(Clone, Copy)]
 pub enum WriteAnswer {
     Done,
     Refused(Refusal),
 }
 
 // The answer, and the writer after it: behind the field, or where it stood if the write was refused.
-#[derive(Drop)]
+#[derive(Clone, Copy)]
 pub struct Written {
     pub answer: WriteAnswer,
     pub writer: BufferedWriter,

@@ -10,7 +10,7 @@ use super::LIMIT;
 use super::refusal::Refusal;
 
 // Whether a field fits its buffer.
-#[derive(Drop)]
+#[derive(Clone, Copy)]
 pub(super) enum Fit {
     Whole,
     Not(Refusal),

@@ -1,5 +1,7 @@
 // Bits in a lent buffer, highest first: after the Rust's `stream/`, with `Bit` of its lib.rs.
 
+#![tactic(auto)]
+
 ghost use Rattle.std.specs.Prelude.{◌≡◌};
 ghost use Rattle.stream.specs.Calls.{bit_number};
 
@@ -20,7 +22,7 @@ pub use refusal::Refusal;
 pub const LIMIT: usize = 16_777_216;
 
 // A single bit.
-#[derive(Drop)]
+#[derive(Clone, Copy)]
 pub enum Bit {
     Zero,
     One,

@@ -8,15 +8,15 @@ use super::LIMIT;
 use super::refusal::Refusal;
 
 // A place among the bits of a buffer: how many bits lie before it.
-#[derive(Drop)]
+#[derive(Clone, Copy)]
 pub struct BitPos(pub(super) usize);
 
 // A number of bytes.
-#[derive(Drop)]
+#[derive(Clone, Copy)]
 pub struct ByteCount(pub(super) usize);
 
 // A byte count as a position, or why it has none.
-#[derive(Drop)]
+#[derive(Clone, Copy)]
 pub enum InBits {
     At(BitPos),
     Refused(Refusal),

@@ -1,5 +1,7 @@
 // A whole series in one call, for programs in other languages: the header is include/tsz.h.
 
+#![tactic(auto)]
+
 mod pack;
 mod said;
 mod unpack;

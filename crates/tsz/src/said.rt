@@ -6,7 +6,7 @@ ghost use Rattle.tsz.specs.Files.{said_of, saying};
 use stream::BitPos;
 
 // The refusal's number or 0, the points, the bits, and the bytes that hold them.
-#[derive(Drop)]
+#[derive(Clone, Copy)]
 pub(super) struct Said {
     pub refusal: u64,
     pub points: u64,

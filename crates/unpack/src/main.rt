@@ -1,13 +1,15 @@
 // Unpacks a stream: reads it from standard input, into 65,536 bytes, and writes a line `time,value` for each of its points, then `end` and the
 // number of points, or `refused` and the number of the refusal.
 
+#![tactic(auto)]
+
 mod points;
 mod say;
 
 use libc::STDIN_FILENO;
 
 // What stands on standard input.
-#[derive(Drop)]
+#[derive(Clone, Copy)]
 enum Input {
     Bytes(usize),
     Longer,

@@ -14,14 +14,14 @@ use super::{Phase, StdDecoder, Step, at_once, behind, stop, take};
 use point::{Stored, points_in};
 
 // Why no more points were given: the lists are full, or the answer that is no point.
-#[derive(Drop)]
+#[derive(Clone, Copy)]
 pub enum UnpackAnswer {
     Full,
     Stopped(Step),
 }
 
 // How many points were given, why there are no more, and the decoder after it: a caller goes on where it stopped.
-#[derive(Drop)]
+#[derive(Clone, Copy)]
 pub struct Unpacked {
     pub given: usize,
     pub answer: UnpackAnswer,
