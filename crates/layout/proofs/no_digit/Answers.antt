@@ -1,0 +1,7 @@
+use mathlib.Core.Path.{refl}
+use Rattle.layout.specs.Windows.{no_digit}
+use Rattle.layout.proofs.no_digit.Goals as goal
+
+pub returns : goal.returns
+unfolding no_digit
+returns c = refl
