@@ -1,5 +1,5 @@
 -- The points of a closed stream come back.
-use mathlib.Core.Path.{◌≡◌, refl, sym, ap, ◌∙◌}
+use mathlib.Core.Path.{◌≡◌, refl, sym, ap, ap₂, ◌∙◌}
 use Prim.Native.Nat.{ℕ, zero, suc, ◌+◌, ◌-◌, ◌^◌, ◌≤◌, ◌<◌}
 use native.Mathlib.Omega.{arith}
 use mathlib.Core.Bool.{Bool, true, cond}
@@ -12,10 +12,10 @@ use lib.Seq.{drop-drop, drop_at}
 use borrow.Author.Tests.{ltb-false}
 use Rattle.stream.specs.Bits.{odd, digit, bits_of}
 use Rattle.stream.proofs.Numbers.{length_bits_of}
-use Rattle.layout.specs.Windows.{Window, window, decoder_window, xor_bits}
+use Rattle.layout.specs.Windows.{Window, decoder_window, xor_bits}
 use Rattle.layout.specs.Writing.{Point, State, state, Progress, begun, going, dod_of, in_range, time_fault, dod_bits, start_bits, marker, first_bits, later_bits, point_bits, first_state, later_state, state_after, rest_bits, opened, stream_bits, Fitting, Accepted}
 use Rattle.layout.specs.Reading.{done, ask, Outcome, got, run, read_start, item, time_field, value_digits, first_marker, point, ending, wrong, Reader, new_time, marker_rest, read_marker, read_value, after_dod, read_later, first_time, read_first, read_next}
-use Rattle.layout.specs.Answers.{point_at, end_at, reached, Answer, an_end, answer_of, step, after_start, first_step, next_step, outcomes_after, outcomes, answers}
+use Rattle.layout.specs.Answers.{a_point, point_at, end_at, reached, Answer, an_end, answer_of, step, after_start, first_step, next_step, outcomes_after, outcomes, answers}
 use Rattle.layout.specs.Promises.{back, PointsComeBack}
 use Rattle.layout.proofs.Tests.{unmet, met}
 use Rattle.layout.proofs.Times.{dod_back, delta_back, time_back, done_at, end_dod}
@@ -165,7 +165,8 @@ module _ (c : ℕ) where
     steps_back (suc n) g w' at (p ∷ ps) e known a ok =
         let q = at + length (point_bits c g p) in
         let next = steps_back n (going (state_after c g p)) (window_then g w' p) q ps (drop_point g at p ps e) (rw (after_is g p).1 ok.0.value_fits) (agree_then g w' p a) ok.2 in
-        rw (step_point g w' at p ps e known a ok.0 ok.1, next, (after_is g p).0, (after_is g p).1)
+        rw (step_point g w' at p ps e known a ok.0 ok.1, next)
+        (ap₂ (λ (t v : ℕ). a_point t v q ∷ back c (suc n) q (going (state_after c g p)) ps) (after_is g p).0 (after_is g p).1)
 
   -- ---- from the start
 
