@@ -1,7 +1,6 @@
 -- What the calls state leaves no choice, and what is refused changes nothing.
 use mathlib.Core.Path.{◌≡◌, refl, ap, ◌∙◌}
 use lib.ListN.{length}
-use Rattle.stream.specs.Bits.{bits}
 use Rattle.stream.specs.Refusals.{number_of}
 use Rattle.stream.specs.Calls.{Told}
 use Rattle.stream.specs.Promises.{Tells}

@@ -1,0 +1,11 @@
+use native.Mathlib.Omega.{arith}
+use Rattle.encode.proofs.Runs.{caught_stands, offered_behind}
+use Rattle.encode.proofs.pack.offer_behind.Goals as goal
+
+pub offer-requires : goal.offer-requires
+offer-requires c = caught_stands _ _ _ _ _ _ c.catch_up-behind.ensures.0 c.requires.value c.requires.may_wait.1 (omega arith)
+
+pub returns : goal.returns
+returns c =
+    let k = c.catch_up-behind.ensures in
+    offered_behind _ _ _ _ _ _ k.0 _ _ _ _ c.offer.ensures k.1 (omega arith)
