@@ -11,7 +11,6 @@ use Rattle.stream.specs.Calls.{limit}
 use Rattle.stream.proofs.Writes.{writes_leave}
 use Rattle.stream.proofs.Bytes.{length_bits, bits_take}
 use Rattle.layout.specs.Answers.{answer_of, outcomes, answers}
-use Rattle.layout.specs.Promises.{back}
 use Rattle.layout.proofs.Round as layout
 use Rattle.layout.proofs.Closed as closed
 use Rattle.layout.proofs.Rising.{precisely}
