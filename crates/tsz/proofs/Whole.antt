@@ -58,7 +58,7 @@ module _ (c n q : ℕ) (g : Progress) (p : Point) (ps : List Point) where
 all_accepted : (c n q : ℕ) (g : Progress) (ps : List Point) → rulings c n q g ps ≡ replicate (length ps) (given []) → accepts c n q g ps ≡ ps
 unfolding accepts
 all_accepted c n q g [] e = refl
-all_accepted c n q g (p ∷ ps) e = turn c n q g p ps _ refl (all_accepted c n _ _ ps) e
+all_accepted c n q g (p ∷ ps) e = turn c n q g p ps _ refl (all_accepted c n (q + length (point_bits c g p)) (going (state_after c g p)) ps) e
 
 -- ---- what steps give back
 
