@@ -2,7 +2,6 @@
 use mathlib.Core.Path.{◌≡◌, refl}
 use mathlib.Core.List.{[], ◌∷◌}
 use Prim.Native.Nat.{ℕ}
-use base.Fml.{GName}
 use Rattle.stream.specs.Bits.{odd, bits_of, digit, value_of, bits, field}
 use Rattle.stream.specs.Refusals.{when, or_else, by_fault}
 use Rattle.stream.specs.Calls.{given, refused, field_fault, read_of}
@@ -10,9 +9,9 @@ use Rattle.lent.specs.declared.held_reader.HeldReader.{HeldReader}
 use Rattle.lent.specs.Calls.{Reading, held_of}
 
 -- the byte A5, wherever it lies
-module _ (place : ℕ × ℕ) (name : GName) where
+module _ (place : ℕ × ℕ) where
   abbrev held : ℕ → HeldReader
-  held at = record { bytes = record { ref_ptr = place; ghost_name = name; now = 165 ∷ [] }; at = record { 0 = at } }
+  held at = record { bytes = record { ref_ptr = place; now = 165 ∷ [] }; at = record { 0 = at } }
 
   -- its last four bits, and past them
   moves_at : ◌≡◌ {A = Reading} (held_of (held 4) 4) (given (5 ∷ []), 8, (held 4).bytes)
