@@ -10,48 +10,48 @@ mod start;
 
 use encode::StdEncoder;
 use encode::std_encoder::CloseAnswer;
-use libc::STDOUT_FILENO;
 use packing::Verdict;
 use start::Start;
+use std::io;
 
 // Closes the stream and writes its bytes.
-fn write_closed(e: StdEncoder, buf: &mut [u8]) {
+fn write_closed(rt: &(impl Print + Eprint), e: StdEncoder, buf: &mut [u8]) {
     let closed = e.close(buf);
     let answer = closed.answer;
     match answer {
-        CloseAnswer::Refused(why) => say::not_closed(why),
+        CloseAnswer::Refused(why) => say::not_closed(rt, why),
         CloseAnswer::Used(bits, bytes) => {
             let n = bytes.get();
             if n <= buf.len() {
-                if !io::write_all(STDOUT_FILENO, &buf[0..n]) {
-                    say::unwritten();
+                if let Err(why) = rt.write_all(&buf[0..n]) {
+                    say::unwritten(rt, why);
                 }
             }
         }
     }
 }
 
-fn pack_from(start: u64) {
-    let mut buf = io::large_buffer();
-    let done = packing::pack(start, &mut buf);
+fn pack_from(rt: &HostRuntime, start: u64) {
+    let mut buf = [0u8; 65536];
+    let done = packing::pack(&mut rt.stdin(), start, &mut buf);
     let p = done.packing;
     let number = p.number;
     let encoder = p.encoder;
     let verdict = done.verdict;
     match verdict {
-        Verdict::NoPoint(fault) => say::no_point(number, fault),
-        Verdict::Refused(why) => say::refused(number, why),
-        Verdict::Unread => say::unread(),
+        Verdict::NoPoint(fault) => say::no_point(rt, number, fault),
+        Verdict::Refused(why) => say::refused(rt, number, why),
+        Verdict::Unread(why) => say::unread(rt, why),
         // the reads that a run may make were used up
-        Verdict::Going => say::unread(),
-        Verdict::Ended => write_closed(encoder, &mut buf),
+        Verdict::Going => say::unread(rt, io::Error::other("it does not end")),
+        Verdict::Ended => write_closed(rt, encoder, &mut buf),
     }
 }
 
-fn main() {
-    let start = start::start_word();
+fn main(rt: HostRuntime) {
+    let start = start::start_word(&rt);
     match start {
-        Start::Bad => say::usage(),
-        Start::At(n) => pack_from(n),
+        Start::Bad => say::usage(&rt),
+        Start::At(n) => pack_from(&rt, n),
     }
 }

@@ -3,7 +3,7 @@
 use super::lines::{Fault, Line, Read, Whole};
 use encode::StdEncoder;
 use encode::std_encoder::EncodeAnswer;
-use libc::STDIN_FILENO;
+use std::io;
 use stream::Refusal;
 
 // The encoder, the line that is read, and that line's number.
@@ -19,7 +19,7 @@ pub(super) struct Packing {
 pub(super) enum Verdict {
     Going,
     Ended,
-    Unread,
+    Unread(io::Error),
     NoPoint(Fault),
     Refused(Refusal),
 }
@@ -31,13 +31,7 @@ pub(super) struct Turn {
 }
 
 fn is_going(verdict: Verdict) -> bool {
-    match verdict {
-        Verdict::Going => true,
-        Verdict::Ended => false,
-        Verdict::Unread => false,
-        Verdict::NoPoint(f) => false,
-        Verdict::Refused(r) => false,
-    }
+    matches!(verdict, Verdict::Going)
 }
 
 fn standing(verdict: Verdict, packing: Packing) -> Turn {
@@ -97,12 +91,9 @@ fn with_byte(p: Packing, buf: &mut [u8], b: u8) -> Turn {
 // The bytes of a piece, up to the first that is wrong.
 fn with_piece(p: Packing, buf: &mut [u8], piece: &[u8]) -> Turn {
     let mut now = standing(Verdict::Going, p);
-    let mut i: usize = 0;
-    while i < piece.len() {
-        let b = piece[i];
-        i += 1;
+    for b in piece {
         let packing = now.packing;
-        now = with_byte(packing, buf, b);
+        now = with_byte(packing, buf, *b);
         let verdict = now.verdict;
         if !is_going(verdict) {
             return now;
@@ -127,22 +118,18 @@ fn at_end(p: Packing, buf: &mut [u8]) -> Turn {
 }
 
 // Reads once, and packs what came.
-fn with_read(p: Packing, buf: &mut [u8]) -> Turn {
-    let mut piece = io::large_buffer();
-    let got = libc::read(STDIN_FILENO, &mut piece);
-    if got < 0 {
-        return standing(Verdict::Unread, p);
+fn with_read(input: &mut impl io::Read, p: Packing, buf: &mut [u8]) -> Turn {
+    let mut piece = [0u8; 65536];
+    match input.read(&mut piece) {
+        Err(why) => standing(Verdict::Unread(why), p),
+        Ok(0) => at_end(p, buf),
+        Ok(n) => with_piece(p, buf, &piece[..n]),
     }
-    if got == 0 {
-        return at_end(p, buf);
-    }
-    let n = io::count(got, &piece);
-    with_piece(p, buf, &piece[..n])
 }
 
 // Packs the points of the input, up to its end or to the first line that is refused. A loop has to end, and nothing says that an input does: it
-// counts its turns down from a number that no run uses up.
-pub(super) fn pack(start: u64, buf: &mut [u8]) -> Turn {
+// counts its turns up to a number that no run reaches.
+pub(super) fn pack(input: &mut impl io::Read, start: u64, buf: &mut [u8]) -> Turn {
     // an encoder whose opening was refused refuses every later call
     let opened = StdEncoder::open(start, buf);
     let encoder = opened.encoder;
@@ -153,11 +140,9 @@ pub(super) fn pack(start: u64, buf: &mut [u8]) -> Turn {
         number: 1,
     };
     let mut now = standing(Verdict::Going, first);
-    let mut turns = u64::MAX;
-    while 0 < turns {
-        turns -= 1;
+    for _ in 0..u64::MAX {
         let packing = now.packing;
-        now = with_read(packing, buf);
+        now = with_read(input, packing, buf);
         let verdict = now.verdict;
         if !is_going(verdict) {
             return now;

@@ -1,135 +1,148 @@
 // What the program says on standard error: why there is no stream, and what to do about it.
 
 use super::lines::Fault;
-use libc::STDERR_FILENO;
+use std::io;
 use stream::Refusal;
 
-fn say(text: &[u8]) {
-    io::write_all(STDERR_FILENO, text);
+// Where standard error fails, there is no place left to say it.
+fn say(rt: &impl Eprint, text: &str) {
+    let _ = rt.eprint(text);
 }
 
-fn say_number(n: u64) {
-    io::print_decimal(STDERR_FILENO, n);
+fn say_number(rt: &impl Eprint, n: u64) {
+    let _ = rt.eprint(n);
 }
 
 // The name that document 01's table gives a refusal.
-fn say_name(why: Refusal) {
+fn say_name(rt: &impl Eprint, why: Refusal) {
     match why {
-        Refusal::NoRoom => say(b"no room"),
-        Refusal::TimeFalls => say(b"time falls"),
-        Refusal::FirstDelta => say(b"first delta"),
-        Refusal::DodRange => say(b"dod range"),
-        Refusal::TooLong => say(b"too long"),
-        Refusal::NoStart => say(b"no start"),
-        Refusal::CutShort => say(b"cut short"),
-        Refusal::BadEnd => say(b"bad end"),
-        Refusal::BadWindow => say(b"bad window"),
-        Refusal::ReadTimeFalls => say(b"read time falls"),
-        Refusal::ReadTimePasses => say(b"read time passes"),
-        Refusal::Closed => say(b"closed"),
-        Refusal::NoFit => say(b"no fit"),
+        Refusal::NoRoom => say(rt, "no room"),
+        Refusal::TimeFalls => say(rt, "time falls"),
+        Refusal::FirstDelta => say(rt, "first delta"),
+        Refusal::DodRange => say(rt, "dod range"),
+        Refusal::TooLong => say(rt, "too long"),
+        Refusal::NoStart => say(rt, "no start"),
+        Refusal::CutShort => say(rt, "cut short"),
+        Refusal::BadEnd => say(rt, "bad end"),
+        Refusal::BadWindow => say(rt, "bad window"),
+        Refusal::ReadTimeFalls => say(rt, "read time falls"),
+        Refusal::ReadTimePasses => say(rt, "read time passes"),
+        Refusal::Closed => say(rt, "closed"),
+        Refusal::NoFit => say(rt, "no fit"),
     }
 }
 
 // "refused N (NAME)"
-fn say_refused(why: Refusal) {
-    say(b"refused ");
-    say_number(why.number() as u64);
-    say(b" (");
-    say_name(why);
-    say(b")\n");
+fn say_refused(rt: &impl Eprint, why: Refusal) {
+    say(rt, "refused ");
+    say_number(rt, why.number() as u64);
+    say(rt, " (");
+    say_name(rt, why);
+    say(rt, ")\n");
 }
 
-fn say_fault(fault: Fault) {
+fn say_fault(rt: &impl Eprint, fault: Fault) {
     match fault {
-        Fault::Empty => say(b"the line is empty"),
-        Fault::NoDigit => say(b"a byte before the comma is no digit"),
-        Fault::NoTime => say(b"no time before the comma"),
-        Fault::Above => say(b"the time is above 18446744073709551615"),
-        Fault::NoComma => say(b"no comma"),
-        Fault::NoValue => say(b"the value is not 16 hex digits"),
-        Fault::Return => say(b"a carriage return that no line feed follows"),
-        Fault::TooLong => say(b"too long"),
+        Fault::Empty => say(rt, "the line is empty"),
+        Fault::NoDigit => say(rt, "a byte before the comma is no digit"),
+        Fault::NoTime => say(rt, "no time before the comma"),
+        Fault::Above => say(rt, "the time is above 18446744073709551615"),
+        Fault::NoComma => say(rt, "no comma"),
+        Fault::NoValue => say(rt, "the value is not 16 hex digits"),
+        Fault::Return => say(rt, "a carriage return that no line feed follows"),
+        Fault::TooLong => say(rt, "too long"),
     }
 }
 
-fn say_line(number: u64) {
-    say(b"line ");
-    say_number(number);
-    say(b": ");
+fn say_line(rt: &impl Eprint, number: u64) {
+    say(rt, "line ");
+    say_number(rt, number);
+    say(rt, ": ");
 }
 
 // A line is no point.
-pub(super) fn no_point(number: u64, fault: Fault) {
-    say_line(number);
-    say(b"no point: ");
-    say_fault(fault);
+pub(super) fn no_point(rt: &impl Eprint, number: u64, fault: Fault) {
+    say_line(rt, number);
+    say(rt, "no point: ");
+    say_fault(rt, fault);
     say(
-        b"\nno stream was written; a line is TIME,VALUE: decimal digits, a comma, the value's bits in 16 hex digits\n",
+        rt,
+        "\nno stream was written; a line is TIME,VALUE: decimal digits, a comma, the value's bits in 16 hex digits\n",
     );
 }
 
 // For a point that can't stand behind those before it.
-fn say_split() {
+fn say_split(rt: &impl Eprint) {
     say(
-        b"pack the lines before it as one stream and those from it on as another, with a START at most 16383 below its time",
+        rt,
+        "pack the lines before it as one stream and those from it on as another, with a START at most 16383 below its time",
     );
 }
 
 // What may be done about a point that the encoder refused.
-fn say_advice(why: Refusal) {
+fn say_advice(rt: &impl Eprint, why: Refusal) {
     match why {
         Refusal::NoRoom => {
-            say(b"there is no room in 65536 bytes for this point behind those before it; ");
-            say_split();
+            say(
+                rt,
+                "there is no room in 65536 bytes for this point behind those before it; ",
+            );
+            say_split(rt);
         }
         Refusal::TimeFalls => say(
-            b"a time may not be below the one before it, nor the first below START",
+            rt,
+            "a time may not be below the one before it, nor the first below START",
         ),
         Refusal::FirstDelta => say(
-            b"the first time may be at most 16383 above START; take a START nearer to it",
+            rt,
+            "the first time may be at most 16383 above START; take a START nearer to it",
         ),
         Refusal::DodRange => {
             say(
-                b"from one step between times to the next the change may be -2147483647 to 2147483648; ",
+                rt,
+                "from one step between times to the next the change may be -2147483647 to 2147483648; ",
             );
-            say_split();
+            say_split(rt);
         }
         // 5 to 11 are no encoder's; 12 and 13 need another state or another buffer
-        _ => say(b"this is a fault of the program"),
+        _ => say(rt, "this is a fault of the program"),
     }
 }
 
 // The encoder refused the point of a line.
-pub(super) fn refused(number: u64, why: Refusal) {
-    say_line(number);
-    say_refused(why);
-    say(b"no stream was written; ");
-    say_advice(why);
-    say(b"\n");
+pub(super) fn refused(rt: &impl Eprint, number: u64, why: Refusal) {
+    say_line(rt, number);
+    say_refused(rt, why);
+    say(rt, "no stream was written; ");
+    say_advice(rt, why);
+    say(rt, "\n");
 }
 
 // The encoder refused to close, which it does not if it was opened.
-pub(super) fn not_closed(why: Refusal) {
-    say(b"close: ");
-    say_refused(why);
-    say(b"no stream was written; this is a fault of the program\n");
+pub(super) fn not_closed(rt: &impl Eprint, why: Refusal) {
+    say(rt, "close: ");
+    say_refused(rt, why);
+    say(
+        rt,
+        "no stream was written; this is a fault of the program\n",
+    );
 }
 
 // A read failed.
-pub(super) fn unread() {
-    os::fail(b"pack: standard input");
-    say(b"no stream was written\n");
+pub(super) fn unread(rt: &impl Eprint, why: io::Error) {
+    failure::report(rt, "pack: standard input", why);
+    say(rt, "no stream was written\n");
 }
 
 // A write failed.
-pub(super) fn unwritten() {
-    os::fail(b"pack: standard output");
-    say(b"what was written of the stream is no whole stream\n");
+pub(super) fn unwritten(rt: &impl Eprint, why: io::Error) {
+    failure::report(rt, "pack: standard output", why);
+    say(rt, "what was written of the stream is no whole stream\n");
 }
 
-pub(super) fn usage() {
+pub(super) fn usage(rt: &impl Eprint) {
     say(
-        b"usage: pack START < points > stream; START is a number from 0 to 18446744073709551615, a point is a line TIME,VALUE\n",
+        rt,
+        "usage: pack START < points > stream; START is a number from 0 to 18446744073709551615, a point is a line TIME,VALUE\n",
     );
 }

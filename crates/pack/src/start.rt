@@ -1,6 +1,8 @@
 // The program's only word: where the series starts.
 
 use super::lines::{Sum, with_decimal};
+use std::env::FillError;
+use std::rt::Env;
 
 #[derive(Clone, Copy)]
 pub(super) enum Start {
@@ -11,11 +13,8 @@ pub(super) enum Start {
 // The number that a text is, in decimal digits and nothing else.
 fn number_of(text: &[u8]) -> Start {
     let mut n: u64 = 0;
-    let mut i: usize = 0;
-    while i < text.len() {
-        let b = text[i];
-        i += 1;
-        let sum = with_decimal(n, b);
+    for b in text {
+        let sum = with_decimal(n, *b);
         match sum {
             Sum::NoDigit => {
                 return Start::Bad;
@@ -31,16 +30,20 @@ fn number_of(text: &[u8]) -> Start {
     Start::At(n)
 }
 
+// Whether the program was started with a second word. It is not read: one for which there is no room is there too.
+fn has_second(env: &impl Env) -> bool {
+    !matches!(env.arg(2, &mut []), Err(FillError::NotPresent))
+}
+
 // The number that the program was started with, if it was started with one word and that is a number.
-pub(super) fn start_word() -> Start {
-    let mut word = io::buffer();
-    if os::arg_count() != 2 {
+pub(super) fn start_word(env: &impl Env) -> Start {
+    let mut word = [0u8; 4096];
+    if has_second(env) {
         return Start::Bad;
     }
-    let n = os::arg(1, &mut word);
-    // an empty word, or one that is longer than the buffer
-    if n == 0 {
-        return Start::Bad;
+    match env.arg(1, &mut word) {
+        Ok(n) if 0 < n => number_of(&word[..n]),
+        // none, an empty one, or one that is longer than the buffer
+        _ => Start::Bad,
     }
-    number_of(&word[..n])
 }

@@ -6,48 +6,53 @@
 mod points;
 mod say;
 
-use libc::STDIN_FILENO;
+use std::env::FillError;
+use std::io;
+use std::rt::Env;
 
 // What stands on standard input.
 #[derive(Clone, Copy)]
 enum Input {
     Bytes(usize),
     Longer,
-    Failed,
 }
 
-// Reads until buf is full or the input ends. `read_full` stops in the same way at an end and at a read that failed; one more read tells them apart.
-fn read_input(buf: &mut [u8]) -> Input {
-    let n = io::read_full(STDIN_FILENO, buf);
+// Reads until buf is full or the input ends. Where buf is full, one more read tells whether the input ends there.
+fn read_input(input: &mut impl io::Read, buf: &mut [u8]) -> io::Result<Input> {
+    let mut n: usize = 0;
+    while n < buf.len() {
+        let more = input.read(&mut buf[n..])?;
+        if more == 0 {
+            return Ok(Input::Bytes(n));
+        }
+        n += more;
+    }
     let mut extra = [0u8; 1];
-    let more = libc::read(STDIN_FILENO, &mut extra);
-    if more == 0 {
-        return Input::Bytes(n);
+    if input.read(&mut extra)? == 0 {
+        return Ok(Input::Bytes(n));
     }
-    if more < 0 {
-        return Input::Failed;
-    }
-    // bytes behind a read that gave none: that read had failed
-    if n < buf.len() {
-        return Input::Failed;
-    }
-    Input::Longer
+    Ok(Input::Longer)
 }
 
-fn main() {
+// Whether the program was started with a word. It is not read: one for which there is no room is there too.
+fn has_word(env: &impl Env) -> bool {
+    !matches!(env.arg(1, &mut []), Err(FillError::NotPresent))
+}
+
+fn main(rt: HostRuntime) {
     // a file's name, perhaps: without a word about it, the program would wait for its input
-    if 1 < os::arg_count() {
-        say::usage();
+    if has_word(&rt) {
+        say::usage(&rt);
         return;
     }
-    let mut buf = io::large_buffer();
-    let found = read_input(&mut buf);
+    let mut buf = [0u8; 65536];
+    let found = read_input(&mut rt.stdin(), &mut buf);
     match found {
-        Input::Failed => os::fail(b"unpack: standard input"),
-        Input::Longer => say::too_long(),
-        Input::Bytes(n) => {
+        Err(why) => failure::report(&rt, "unpack: standard input", why),
+        Ok(Input::Longer) => say::too_long(&rt),
+        Ok(Input::Bytes(n)) => {
             if n <= buf.len() {
-                points::unpack(&buf[0..n]);
+                points::unpack(&rt, &buf[0..n]);
             }
         }
     }

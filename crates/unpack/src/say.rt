@@ -1,10 +1,11 @@
 // What the program writes. Lines gather in a page, `out[0..used]`, which goes to standard output when there is no room for one more. What is
 // written is tested and not proved, so the contracts say only where a page ends.
 
-ghost use Rattle.std.specs.Prelude.{◌≤◌, length};
+ghost use Rattle.std.specs.Prelude.{◌≤◌, length, IfOk};
 
-use libc::{STDERR_FILENO, STDOUT_FILENO};
 use point::Stored;
+use std::fmt::InlineText;
+use std::io;
 use stream::Refusal;
 
 // More than any line has: 20 digits, a comma, 16 digits and the line's end.
@@ -17,25 +18,24 @@ fn put(out: &mut [u8], used: usize, text: &[u8]) -> usize
 {
     let room = out.len() - used;
     if room < text.len() {
-        bytes::copy(&text[0..room], &mut out[used..]);
+        out[used..].copy_from_slice(&text[..room]);
         return out.len();
     }
-    bytes::copy(text, &mut out[used..]);
-    used + text.len()
+    let end = used + text.len();
+    out[used..end].copy_from_slice(text);
+    end
 }
 
-// Where the next line may begin. A full page is written first; it stays full if that failed.
-pub(super) fn room(out: &[u8], used: usize) -> usize
+// Where the next line may begin. A full page is written first.
+pub(super) fn room(rt: &impl Print, out: &[u8], used: usize) -> io::Result<usize>
     requires { used ≤ length out.now }
-    ensures { result ≤ length out.now }
+    ensures { IfOk result (λ n. n ≤ length out.now) }
 {
     if has_room(out, used) {
-        return used;
+        return Ok(used);
     }
-    if io::write_all(STDOUT_FILENO, &out[0..used]) {
-        return 0;
-    }
-    used
+    rt.write_all(&out[0..used])?;
+    Ok(0)
 }
 
 // Whether a line fits behind out[0..used].
@@ -50,9 +50,8 @@ fn put_number(out: &mut [u8], used: usize, n: u64) -> usize
     requires { used ≤ length out.old }
     ensures { result ≤ length out.old }
 {
-    let mut digits = [0u8; 20];
-    let k = io::decimal(n, &mut digits);
-    put(out, used, &digits[0..k])
+    let digits = InlineText::<20>::of(n);
+    put(out, used, digits.as_str().as_bytes())
 }
 
 // "T,V", the value as its bits in 16 digits.
@@ -62,50 +61,47 @@ pub(super) fn put_point(out: &mut [u8], used: usize, p: Stored) -> usize
 {
     let timed = put_number(out, used, p.time);
     let parted = put(out, timed, b",");
-    let mut digits = [0u8; 16];
-    let k = io::hex(p.bits, 16, &mut digits);
-    let valued = put(out, parted, &digits[0..k]);
+    let bits = p.bits;
+    let digits = InlineText::<16>::of(format_args!("{bits:016x}"));
+    let valued = put(out, parted, digits.as_str().as_bytes());
     put(out, valued, b"\n")
 }
 
-// The last line, "WORD N", and all that still stands in the page. Answers whether it was written.
-fn ended(out: &mut [u8], used: usize, word: &[u8], n: u64) -> bool
+// The last line, "WORD N", and all that still stands in the page.
+fn ended(rt: &impl Print, out: &mut [u8], used: usize, word: &[u8], n: u64) -> io::Result<()>
     requires { used ≤ length out.old }
 {
     let named = put(out, used, word);
     let told = put_number(out, named, n);
     let end = put(out, told, b"\n");
-    io::write_all(STDOUT_FILENO, &out[0..end])
+    rt.write_all(&out[0..end])
 }
 
-pub(super) fn end(out: &mut [u8], used: usize, points: u64) -> bool
+pub(super) fn end(rt: &impl Print, out: &mut [u8], used: usize, points: u64) -> io::Result<()>
     requires { used ≤ length out.old }
 {
-    ended(out, used, b"end ", points)
+    ended(rt, out, used, b"end ", points)
 }
 
-pub(super) fn refused(out: &mut [u8], used: usize, why: Refusal) -> bool
+pub(super) fn refused(rt: &impl Print, out: &mut [u8], used: usize, why: Refusal) -> io::Result<()>
     requires { used ≤ length out.old }
 {
-    ended(out, used, b"refused ", why.number() as u64)
+    ended(rt, out, used, b"refused ", why.number() as u64)
 }
 
-pub(super) fn usage() {
-    io::write_all(
-        STDERR_FILENO,
-        b"usage: unpack < stream > points; it takes no words\n",
-    );
+pub(super) fn usage(rt: &impl Eprint) {
+    let _ = eprintln!(rt; "usage: unpack < stream > points; it takes no words");
 }
 
 // That a write failed, and why.
-pub(super) fn failed() {
-    os::fail(b"unpack: standard output");
+pub(super) fn failed(rt: &impl Eprint, why: io::Error) {
+    failure::report(rt, "unpack: standard output", why);
 }
 
 // The only line for an input that is longer than the buffer.
-pub(super) fn too_long() {
+pub(super) fn too_long(rt: &(impl Print + Eprint)) {
     let mut out = [0u8; LINE];
-    if !refused(&mut out, 0, Refusal::TooLong) {
-        failed();
+    if let Err(why) = refused(rt, &mut out, 0, Refusal::TooLong) {
+        failed(rt, why);
     }
 }
