@@ -14,6 +14,9 @@ use packing::Verdict;
 use start::Start;
 use std::io;
 
+// As many bytes as a stream may have.
+const LIMIT: usize = 65_536;
+
 // Closes the stream and writes its bytes.
 fn write_closed(rt: &(impl Print + Eprint), e: StdEncoder, buf: &mut [u8]) {
     let closed = e.close(buf);
@@ -32,7 +35,7 @@ fn write_closed(rt: &(impl Print + Eprint), e: StdEncoder, buf: &mut [u8]) {
 }
 
 fn pack_from(rt: &HostRuntime, start: u64) {
-    let mut buf = [0u8; 65536];
+    let mut buf = [0u8; LIMIT];
     let done = packing::pack(&mut rt.stdin(), start, &mut buf);
     let p = done.packing;
     let number = p.number;

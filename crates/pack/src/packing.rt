@@ -6,6 +6,9 @@ use encode::std_encoder::EncodeAnswer;
 use std::io;
 use stream::Refusal;
 
+// How many bytes are read at once.
+const PIECE: usize = 65_536;
+
 // The encoder, the line that is read, and that line's number.
 #[derive(Clone, Copy)]
 pub(super) struct Packing {
@@ -119,7 +122,7 @@ fn at_end(p: Packing, buf: &mut [u8]) -> Turn {
 
 // Reads once, and packs what came.
 fn with_read(input: &mut impl io::Read, p: Packing, buf: &mut [u8]) -> Turn {
-    let mut piece = [0u8; 65536];
+    let mut piece = [0u8; PIECE];
     match input.read(&mut piece) {
         Err(why) => standing(Verdict::Unread(why), p),
         Ok(0) => at_end(p, buf),

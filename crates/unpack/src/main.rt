@@ -10,6 +10,9 @@ use std::env::FillError;
 use std::io;
 use std::rt::Env;
 
+// As many bytes as a stream may have.
+const LIMIT: usize = 65_536;
+
 // What stands on standard input.
 #[derive(Clone, Copy)]
 enum Input {
@@ -45,7 +48,7 @@ fn main(rt: HostRuntime) {
         say::usage(&rt);
         return;
     }
-    let mut buf = [0u8; 65536];
+    let mut buf = [0u8; LIMIT];
     let found = read_input(&mut rt.stdin(), &mut buf);
     match found {
         Err(why) => failure::report(&rt, "unpack: standard input", why),

@@ -8,6 +8,9 @@ use std::io;
 // More steps than 65,536 bytes can give: a point takes two bits or more.
 const STEPS: u64 = 300_000;
 
+// How many bytes of output are written at once.
+const PAGE: usize = 65_536;
+
 // Writes a line for each point of the stream, and the last line, or answers why that failed.
 fn told(rt: &impl Print, s: &[u8], out: &mut [u8]) -> io::Result<()> {
     // a decoder whose opening was refused answers that refusal at its first step
@@ -35,7 +38,7 @@ fn told(rt: &impl Print, s: &[u8], out: &mut [u8]) -> io::Result<()> {
 }
 
 pub(super) fn unpack(rt: &(impl Print + Eprint), s: &[u8]) {
-    let mut out = [0u8; 65536];
+    let mut out = [0u8; PAGE];
     if let Err(why) = told(rt, s, &mut out) {
         say::failed(rt, why);
     }
