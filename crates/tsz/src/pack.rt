@@ -72,14 +72,7 @@ fn pack(start: u64, times: &[u64], values: &[u64], out: &mut [u8]) -> Said
 }
 
 // Packs the points of two lists, as many as the shorter has, until one is refused; the stream is closed also then.
-#[unsafe(no_mangle)]
-pub extern "C" fn tsz_pack(
-    start: u64,
-    times: &[u64],
-    values: &[u64],
-    out: &mut [u8],
-    said: &mut [u64; 4],
-)
+pub fn tsz_pack(start: u64, times: &[u64], values: &[u64], out: &mut [u8], said: &mut [u64; 4])
     ensures { (said.new, bits out.new) ≡ packed_of 6 start (length out.old) (bits out.old) (pairs times.now values.now) }
 {
     let s = pack(start, times, values, out);

@@ -54,8 +54,7 @@ fn said_behind(points: usize, at: BitPos, answer: Step) -> Said
 }
 
 // Unpacks a stream into the first entries of two lists, as many as the shorter has; the other entries stay.
-#[unsafe(no_mangle)]
-pub extern "C" fn tsz_unpack(src: &[u8], times: &mut [u64], values: &mut [u64], said: &mut [u64; 4])
+pub fn tsz_unpack(src: &[u8], times: &mut [u64], values: &mut [u64], said: &mut [u64; 4])
     ensures { (said.new, times.new, values.new) ≡ unpacked_of 6 (length src.now) (bits src.now) times.old values.old }
 {
     let opened = StdDecoder::open(src);
