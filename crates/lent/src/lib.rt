@@ -1,6 +1,5 @@
 // Shapes that people know from the Rust, thin over the core: a reader that holds the lent bytes and its position together, and states that are lent
-// and changed in place. A function that takes, makes or keeps such a reader, or a reference to a state, is proved by hand, step by step of its code. So
-// above each shape there is a function with plain parameters, and whoever calls only those needs no such proof.
+// and changed in place. Above each shape there is a function with plain parameters, which takes the state by value and hands it back.
 
 #![tactic(auto)]
 
