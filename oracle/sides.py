@@ -33,34 +33,18 @@ def rust(work, name, flags):
     return [program]
 
 
-def is_current(name):
-    """Whether a program is proved and built, and no source is newer."""
-    stamp, program = (os.path.join(ROOT, "target", kind, name) for kind in ("stamp", "bin"))
-    if not (os.path.exists(stamp) and os.path.exists(program)):
-        return False
-    sources = [os.path.join(ROOT, "crates.txt")]
-    for folder, _, files in os.walk(os.path.join(ROOT, "crates")):
-        # a folder is newer where a file was taken away; a file that was moved in keeps its date, but not that of its place
-        sources += [folder] + [os.path.join(folder, file) for file in files]
-    newest = max(max(found.st_mtime, found.st_ctime) for found in map(os.stat, sources))
-    return newest <= os.path.getmtime(stamp)
-
-
 def port(name):
-    """Builds a program of the port, if it is not there; answers the command. Programs are for x86-64 Linux: where one does not start by itself, the
-    kit's loader starts it, and on another processor its emulator."""
-    if not is_current(name):
-        built = subprocess.run(["rt", "check", name], cwd=ROOT, stdout=subprocess.PIPE, stderr=subprocess.STDOUT, text=True)
-        if built.returncode:
-            sys.exit("oracle: FAILED, 'rt check %s' ended with status %d:\n%s" % (name, built.returncode, built.stdout[-2000:]))
-    program = os.path.join(ROOT, "target", "bin", name)
+    """Builds a program of the port, if it is not there or a source is newer; answers the command. Programs are for x86-64 Linux: where one does not
+    start by itself, the kit's loader starts it."""
+    built = subprocess.run([os.path.join(ROOT, "run"), "--build", name], stdout=subprocess.PIPE, stderr=subprocess.STDOUT, text=True)
+    if built.returncode:
+        sys.exit("oracle: FAILED, './run --build %s' ended with status %d:\n%s" % (name, built.returncode, built.stdout[-2000:]))
+    program = os.path.join(ROOT, "crates", name, "out", name)
     if platform.machine() == "x86_64" and starts([program]):
         return [program]
     doc = subprocess.run(["rt", "doc"], stdout=subprocess.PIPE, text=True, check=True).stdout.strip()
-    kit = os.path.join(os.path.dirname(os.path.dirname(doc)), "on", platform.machine(), "toolchain")
-    emulator = os.path.join(kit, "bin", "qemu-x86_64")
-    loader = [os.path.join(kit, "lib", "ld-linux-x86-64.so.2"), "--library-path", os.path.join(kit, "lib")]
-    return ([emulator] if os.path.exists(emulator) else []) + loader + [program]
+    lib = os.path.join(os.path.dirname(doc), "toolchain", "lib")
+    return [os.path.join(lib, "ld-linux-x86-64.so.2"), "--library-path", lib, program]
 
 
 def starts(words):
