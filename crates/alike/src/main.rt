@@ -3,8 +3,8 @@
 
 #![tactic(auto)]
 
-use libc::STDOUT_FILENO;
 use point::{DataPoint, Ordering, Stored};
+use std::io::{self, Stdout};
 
 // Zeros, the smallest and the largest numbers, ones, a third, infinities, NaNs with and without sign and payload.
 const PATTERNS: [u64; 16] = [
@@ -26,8 +26,17 @@ const PATTERNS: [u64; 16] = [
     0xffff_ffff_ffff_ffff,
 ];
 
-fn say(text: &[u8]) {
-    io::write_all(STDOUT_FILENO, text);
+fn say(out: Stdout, text: &[u8]) -> io::Result<()> {
+    out.write_all(text)
+}
+
+fn say_number(out: Stdout, n: u64) -> io::Result<()> {
+    print!(out; "{n}")
+}
+
+// In hex, with zeros in front of a number that has fewer digits than the width.
+fn say_hex(out: Stdout, n: u64, width: usize) -> io::Result<()> {
+    print!(out; "{n:0width$x}")
 }
 
 fn point_of(time: u64, bits: u64) -> DataPoint {
@@ -36,59 +45,56 @@ fn point_of(time: u64, bits: u64) -> DataPoint {
 }
 
 // The bits as a value, and the value's bits.
-fn say_back(bits: u64) {
-    io::print_hex(STDOUT_FILENO, bits, 16);
-    say(b" ");
+fn say_back(out: Stdout, bits: u64) -> io::Result<()> {
+    say_hex(out, bits, 16)?;
+    say(out, b" ")?;
     let s = point_of(7, bits).to_stored();
-    io::print_hex(STDOUT_FILENO, s.bits, 16);
-    say(b" ");
-    io::print_decimal(STDOUT_FILENO, s.time);
-    say(b" ");
+    say_hex(out, s.bits, 16)?;
+    say(out, b" ")?;
+    say_number(out, s.time)?;
+    say(out, b" ")
 }
 
-fn say_same(a: DataPoint, b: DataPoint) {
+fn say_same(out: Stdout, a: DataPoint, b: DataPoint) -> io::Result<()> {
     if a.same(b) {
-        say(b"=");
+        say(out, b"=")
     } else {
-        say(b".");
+        say(out, b".")
     }
 }
 
 // One value beside all of them, at the same time and at another.
-fn row(bits: u64) {
-    say_back(bits);
-    let mut k: usize = 0;
-    while k < 16 {
-        say_same(point_of(7, bits), point_of(7, PATTERNS[k]));
-        k += 1;
+fn row(out: Stdout, bits: u64) -> io::Result<()> {
+    say_back(out, bits)?;
+    for other in PATTERNS {
+        say_same(out, point_of(7, bits), point_of(7, other))?;
     }
-    say(b" ");
-    say_same(point_of(7, bits), point_of(8, bits));
-    say(b"\n");
+    say(out, b" ")?;
+    say_same(out, point_of(7, bits), point_of(8, bits))?;
+    say(out, b"\n")
 }
 
-fn say_order(t: u64, u: u64) {
+fn say_order(out: Stdout, t: u64, u: u64) -> io::Result<()> {
     // the values say the opposite of the times
     let a = DataPoint::new(t, 2.0);
     let b = DataPoint::new(u, 1.0);
     let o = a.cmp(b);
     match o {
-        Ordering::Less => say(b"<"),
-        Ordering::Equal => say(b"="),
-        Ordering::Greater => say(b">"),
+        Ordering::Less => say(out, b"<"),
+        Ordering::Equal => say(out, b"="),
+        Ordering::Greater => say(out, b">"),
     }
 }
 
-fn main() {
-    let mut k: usize = 0;
-    while k < 16 {
-        row(PATTERNS[k]);
-        k += 1;
+fn main(rt: HostRuntime) -> io::Result<()> {
+    let out = rt.stdout();
+    for bits in PATTERNS {
+        row(out, bits)?;
     }
-    say_order(1, 2);
-    say_order(2, 2);
-    say_order(3, 2);
-    say_order(0, 18_446_744_073_709_551_615);
-    say_order(18_446_744_073_709_551_615, 0);
-    say(b"\n");
+    say_order(out, 1, 2)?;
+    say_order(out, 2, 2)?;
+    say_order(out, 3, 2)?;
+    say_order(out, 0, 18_446_744_073_709_551_615)?;
+    say_order(out, 18_446_744_073_709_551_615, 0)?;
+    say(out, b"\n")
 }

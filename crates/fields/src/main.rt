@@ -4,7 +4,7 @@
 
 #![tactic(auto)]
 
-use libc::STDOUT_FILENO;
+use std::io::{self, Stdout};
 use stream::Bit;
 use stream::buffered_read::{
     BitAnswer, BitRead, BitsAnswer, BitsRead, BufferedReader, ByteAnswer, ByteRead,
@@ -22,43 +22,46 @@ const WIDTHS: [u32; 10] = [0, 1, 7, 8, 9, 63, 64, 65, 256, 4_294_967_295];
 
 const VALUE: u64 = 0x9e37_79b9_7f4a_7c15;
 
-fn say(text: &[u8]) {
-    io::write_all(STDOUT_FILENO, text);
+fn say(out: Stdout, text: &[u8]) -> io::Result<()> {
+    out.write_all(text)
 }
 
-fn say_number(n: usize) {
-    io::print_decimal(STDOUT_FILENO, n as u64);
+fn say_number(out: Stdout, n: usize) -> io::Result<()> {
+    print!(out; "{n}")
 }
 
-fn say_number_of(r: Refusal) {
-    say(b" refused ");
-    io::print_decimal(STDOUT_FILENO, r.number() as u64);
+// In hex, with zeros in front of a number that has fewer digits than the width.
+fn say_hex(out: Stdout, n: u64, width: usize) -> io::Result<()> {
+    print!(out; "{n:0width$x}")
+}
+
+fn say_number_of(out: Stdout, r: Refusal) -> io::Result<()> {
+    say(out, b" refused ")?;
+    say_number(out, r.number() as usize)
 }
 
 // The answer " refused R at P".
-fn say_refused(r: Refusal, at: BitPos) {
-    say_number_of(r);
-    say_at(at);
+fn say_refused(out: Stdout, r: Refusal, at: BitPos) -> io::Result<()> {
+    say_number_of(out, r)?;
+    say_at(out, at)
 }
 
-fn say_at(at: BitPos) {
-    say(b" at ");
-    say_number(at.get());
+fn say_at(out: Stdout, at: BitPos) -> io::Result<()> {
+    say(out, b" at ")?;
+    say_number(out, at.get())
 }
 
 // " V at P", the number in hex.
-fn say_value(v: u64, at: BitPos) {
-    say(b" ");
-    io::print_hex(STDOUT_FILENO, v, 1);
-    say_at(at);
+fn say_value(out: Stdout, v: u64, at: BitPos) -> io::Result<()> {
+    say(out, b" ")?;
+    say_hex(out, v, 1)?;
+    say_at(out, at)
 }
 
 // Bytes that are all different and seldom zero.
 fn dirty(buf: &mut [u8]) {
-    let mut i: usize = 0;
-    while i < buf.len() {
-        buf[i] = (((i % 256) * 37 + 201) % 256) as u8;
-        i += 1;
+    for (i, x) in buf.iter_mut().enumerate() {
+        *x = (((i % 256) * 37 + 201) % 256) as u8;
     }
 }
 
@@ -66,208 +69,200 @@ fn wide(x: u8) -> u64 {
     x as u64
 }
 
-fn say_bytes(buf: &[u8]) {
-    let mut i: usize = 0;
-    while i < buf.len() {
-        io::print_hex(STDOUT_FILENO, wide(buf[i]), 2);
-        i += 1;
+fn say_bytes(out: Stdout, buf: &[u8]) -> io::Result<()> {
+    for x in buf {
+        say_hex(out, wide(*x), 2)?;
     }
+    Ok(())
 }
 
 // A writer at bit p, or at the buffer's end; what it wrote on its way is of no account.
 fn writer_at(buf: &mut [u8], p: usize) -> BufferedWriter {
     let mut w = BufferedWriter::new();
-    let mut i: usize = 0;
-    while i < p {
+    for _ in 0..p {
         let r = w.write_bit(buf, Bit::One);
         w = r.writer;
-        i += 1;
     }
     w
 }
 
 fn reader_at(buf: &[u8], p: usize) -> BufferedReader {
     let mut r = BufferedReader::new();
-    let mut i: usize = 0;
-    while i < p {
+    for _ in 0..p {
         let f = r.read_bit(buf);
         r = f.reader;
-        i += 1;
     }
     r
 }
 
-fn say_written(buf: &[u8], w: Written) {
+fn say_written(out: Stdout, buf: &[u8], w: Written) -> io::Result<()> {
     let at = w.writer.position();
     let answer = w.answer;
     match answer {
         WriteAnswer::Done => {
-            say(b" done");
-            say_at(at);
+            say(out, b" done")?;
+            say_at(out, at)?;
         }
-        WriteAnswer::Refused(r) => say_refused(r, at),
+        WriteAnswer::Refused(r) => say_refused(out, r, at)?,
     }
-    say(b" ");
-    say_bytes(buf);
-    say(b"\n");
+    say(out, b" ")?;
+    say_bytes(out, buf)?;
+    say(out, b"\n")
 }
 
-fn say_bits(f: BitsRead) {
+fn say_bits(out: Stdout, f: BitsRead) -> io::Result<()> {
     let at = f.reader.position();
     let answer = f.answer;
     match answer {
-        BitsAnswer::Bits(v) => say_value(v, at),
-        BitsAnswer::Refused(r) => say_refused(r, at),
+        BitsAnswer::Bits(v) => say_value(out, v, at),
+        BitsAnswer::Refused(r) => say_refused(out, r, at),
     }
 }
 
-fn say_bit(f: BitRead) {
+fn say_bit(out: Stdout, f: BitRead) -> io::Result<()> {
     let at = f.reader.position();
     let answer = f.answer;
     match answer {
-        BitAnswer::Bit(b) => say_value(b.to_u64(), at),
-        BitAnswer::Refused(r) => say_refused(r, at),
+        BitAnswer::Bit(b) => say_value(out, b.to_u64(), at),
+        BitAnswer::Refused(r) => say_refused(out, r, at),
     }
 }
 
-fn say_byte(f: ByteRead) {
+fn say_byte(out: Stdout, f: ByteRead) -> io::Result<()> {
     let at = f.reader.position();
     let answer = f.answer;
     match answer {
-        ByteAnswer::Byte(x) => say_value(x as u64, at),
-        ByteAnswer::Refused(r) => say_refused(r, at),
+        ByteAnswer::Byte(x) => say_value(out, x as u64, at),
+        ByteAnswer::Refused(r) => say_refused(out, r, at),
     }
 }
 
 // A field of n bits at the writer's place, over dirt.
-fn write_case(buf: &mut [u8], w: BufferedWriter, n: u32) {
+fn write_case(out: Stdout, buf: &mut [u8], w: BufferedWriter, n: u32) -> io::Result<()> {
     dirty(buf);
     let r = w.write_bits(buf, VALUE, n);
-    say(b"write ");
-    say_number(n as usize);
-    say(b":");
-    say_written(buf, r);
+    say(out, b"write ")?;
+    say_number(out, n as usize)?;
+    say(out, b":")?;
+    say_written(out, buf, r)
 }
 
 // A read and a peek of n bits at the reader's place.
-fn read_case(buf: &[u8], r: BufferedReader, n: u32) {
-    say(b"read ");
-    say_number(n as usize);
-    say(b":");
-    say_bits(r.read_bits(buf, n));
-    say(b", peek:");
-    say_bits(r.peak_bits(buf, n));
-    say(b"\n");
+fn read_case(out: Stdout, buf: &[u8], r: BufferedReader, n: u32) -> io::Result<()> {
+    say(out, b"read ")?;
+    say_number(out, n as usize)?;
+    say(out, b":")?;
+    say_bits(out, r.read_bits(buf, n))?;
+    say(out, b", peek:")?;
+    say_bits(out, r.peak_bits(buf, n))?;
+    say(out, b"\n")
 }
 
 // A byte at the writer's place, over dirt.
-fn byte_case(buf: &mut [u8], w: BufferedWriter) {
+fn byte_case(out: Stdout, buf: &mut [u8], w: BufferedWriter) -> io::Result<()> {
     dirty(buf);
     let r = w.write_byte(buf, 0x5a);
-    say(b"write_byte:");
-    say_written(buf, r);
+    say(out, b"write_byte:")?;
+    say_written(out, buf, r)
 }
 
 // A bit at the writer's place, over dirt.
-fn bit_case(buf: &mut [u8], w: BufferedWriter, bit: Bit) {
+fn bit_case(out: Stdout, buf: &mut [u8], w: BufferedWriter, bit: Bit) -> io::Result<()> {
     dirty(buf);
     let r = w.write_bit(buf, bit);
-    say(b"write_bit ");
-    say_number(bit.to_u64() as usize);
-    say(b":");
-    say_written(buf, r);
+    say(out, b"write_bit ")?;
+    say_number(out, bit.to_u64() as usize)?;
+    say(out, b":")?;
+    say_written(out, buf, r)
 }
 
-fn write_cases(buf: &mut [u8], w: BufferedWriter) {
-    byte_case(buf, w);
-    bit_case(buf, w, Bit::Zero);
-    bit_case(buf, w, Bit::One);
-    let mut k: usize = 0;
-    while k < 10 {
-        write_case(buf, w, WIDTHS[k]);
-        k += 1;
+fn write_cases(out: Stdout, buf: &mut [u8], w: BufferedWriter) -> io::Result<()> {
+    byte_case(out, buf, w)?;
+    bit_case(out, buf, w, Bit::Zero)?;
+    bit_case(out, buf, w, Bit::One)?;
+    for n in WIDTHS {
+        write_case(out, buf, w, n)?;
     }
+    Ok(())
 }
 
-fn read_cases(buf: &[u8], r: BufferedReader) {
-    say(b"read_byte:");
-    say_byte(r.read_byte(buf));
-    say(b", read_bit:");
-    say_bit(r.read_bit(buf));
-    say(b"\n");
-    let mut k: usize = 0;
-    while k < 10 {
-        read_case(buf, r, WIDTHS[k]);
-        k += 1;
+fn read_cases(out: Stdout, buf: &[u8], r: BufferedReader) -> io::Result<()> {
+    say(out, b"read_byte:")?;
+    say_byte(out, r.read_byte(buf))?;
+    say(out, b", read_bit:")?;
+    say_bit(out, r.read_bit(buf))?;
+    say(out, b"\n")?;
+    for n in WIDTHS {
+        read_case(out, buf, r, n)?;
     }
+    Ok(())
 }
 
-fn say_place(text: &[u8], p: usize) {
-    say(text);
-    say_number(p);
-    say(b"\n");
+fn say_place(out: Stdout, text: &[u8], p: usize) -> io::Result<()> {
+    say(out, text)?;
+    say_number(out, p)?;
+    say(out, b"\n")
 }
 
 // All cases at every place of a buffer.
-fn run(buf: &mut [u8]) {
-    let mut k: usize = 0;
-    while k < 21 {
-        let p = PLACES[k];
-        say_place(b"to bit ", p);
+fn run(out: Stdout, buf: &mut [u8]) -> io::Result<()> {
+    for p in PLACES {
+        say_place(out, b"to bit ", p)?;
         let w = writer_at(buf, p);
-        write_cases(buf, w);
+        write_cases(out, buf, w)?;
         dirty(buf);
         let r = reader_at(buf, p);
-        read_cases(buf, r);
-        k += 1;
+        read_cases(out, buf, r)?;
     }
+    Ok(())
 }
 
 // All cases from a place that was reached in a longer buffer.
-fn run_short(long: &mut [u8], short: &mut [u8], p: usize) {
-    say_place(b"with fewer bytes, from bit ", p);
+fn run_short(out: Stdout, long: &mut [u8], short: &mut [u8], p: usize) -> io::Result<()> {
+    say_place(out, b"with fewer bytes, from bit ", p)?;
     let w = writer_at(long, p);
-    write_cases(short, w);
+    write_cases(out, short, w)?;
     let r = reader_at(long, p);
     dirty(short);
-    read_cases(short, r);
+    read_cases(out, short, r)
 }
 
 // Bytes as bits and bits as bytes.
-fn convert(n: usize) {
-    say_number(n);
-    say(b" bytes:");
+fn convert(out: Stdout, n: usize) -> io::Result<()> {
+    say_number(out, n)?;
+    say(out, b" bytes:")?;
     let bytes = ByteCount::new(n);
     let answer = bytes.to_bits();
     match answer {
-        InBits::At(p) => say_at(p),
-        InBits::Refused(r) => say_number_of(r),
+        InBits::At(p) => say_at(out, p)?,
+        InBits::Refused(r) => say_number_of(out, r)?,
     }
-    say(b", ");
-    say_number(n);
-    say(b" bits: ");
+    say(out, b", ")?;
+    say_number(out, n)?;
+    say(out, b" bits: ")?;
     let held = BitPos::new(n).to_bytes();
-    say_number(held.get());
-    say(b"\n");
+    say_number(out, held.get())?;
+    say(out, b"\n")
 }
 
-fn main() {
+fn main(rt: HostRuntime) -> io::Result<()> {
+    let out = rt.stdout();
     let mut long = [0u8; 20];
     let mut two = [0u8; 2];
     let mut none = [0u8; 0];
-    run(&mut long);
-    run_short(&mut long, &mut two, 15);
-    run_short(&mut long, &mut two, 16);
-    run_short(&mut long, &mut two, 17);
-    run_short(&mut long, &mut none, 0);
-    run_short(&mut long, &mut none, 1);
-    convert(0);
-    convert(1);
-    convert(7);
-    convert(8);
-    convert(9);
-    convert(16_777_216);
-    convert(16_777_217);
-    convert(2_305_843_009_213_693_952);
-    convert(18_446_744_073_709_551_615);
+    run(out, &mut long)?;
+    run_short(out, &mut long, &mut two, 15)?;
+    run_short(out, &mut long, &mut two, 16)?;
+    run_short(out, &mut long, &mut two, 17)?;
+    run_short(out, &mut long, &mut none, 0)?;
+    run_short(out, &mut long, &mut none, 1)?;
+    convert(out, 0)?;
+    convert(out, 1)?;
+    convert(out, 7)?;
+    convert(out, 8)?;
+    convert(out, 9)?;
+    convert(out, 16_777_216)?;
+    convert(out, 16_777_217)?;
+    convert(out, 2_305_843_009_213_693_952)?;
+    convert(out, 18_446_744_073_709_551_615)
 }

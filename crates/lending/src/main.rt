@@ -9,12 +9,15 @@ mod encoding;
 mod reading;
 mod say;
 
-fn main() {
+use std::io;
+
+fn main(rt: HostRuntime) -> io::Result<()> {
+    let out = rt.stdout();
     // dirty, so that what is not cleared is seen
     let mut buf = [0xffu8; 32];
-    let used = encoding::encoded(&mut buf);
-    reading::shown(&buf, used);
-    decoding::decoded(&buf, used);
+    let used = encoding::encoded(out, &mut buf)?;
+    reading::shown(out, &buf, used)?;
+    decoding::decoded(out, &buf, used)?;
     // its first two points lie in 21 bytes
-    decoding::decoded(&buf, 21);
+    decoding::decoded(out, &buf, 21)
 }

@@ -1,29 +1,30 @@
 // What the program prints, piece by piece as it comes.
 
-use libc::STDOUT_FILENO;
 use point::Stored;
+use std::io::{self, Stdout};
 use stream::Refusal;
 
-pub(super) fn say(text: &[u8]) {
-    io::write_all(STDOUT_FILENO, text);
+pub(super) fn say(out: Stdout, text: &[u8]) -> io::Result<()> {
+    out.write_all(text)
 }
 
-pub(super) fn say_number(n: u64) {
-    io::print_decimal(STDOUT_FILENO, n);
+pub(super) fn say_number(out: Stdout, n: u64) -> io::Result<()> {
+    print!(out; "{n}")
 }
 
-pub(super) fn say_hex(n: u64) {
-    io::print_hex(STDOUT_FILENO, n, 1);
+// In hex, with zeros in front of a number that has fewer digits than the width.
+pub(super) fn say_hex(out: Stdout, n: u64, width: usize) -> io::Result<()> {
+    print!(out; "{n:0width$x}")
 }
 
-pub(super) fn say_refused(r: Refusal) {
-    say(b"refused ");
-    say_number(r.number() as u64);
+pub(super) fn say_refused(out: Stdout, r: Refusal) -> io::Result<()> {
+    say(out, b"refused ")?;
+    say_number(out, r.number() as u64)
 }
 
 // "T V", the value as its 64 bits in hex.
-pub(super) fn say_point(p: Stored) {
-    say_number(p.time);
-    say(b" ");
-    io::print_hex(STDOUT_FILENO, p.bits, 16);
+pub(super) fn say_point(out: Stdout, p: Stored) -> io::Result<()> {
+    say_number(out, p.time)?;
+    say(out, b" ")?;
+    say_hex(out, p.bits, 16)
 }

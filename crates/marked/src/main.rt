@@ -9,21 +9,24 @@ mod series;
 mod states;
 mod streams;
 
-fn main() {
-    series::marked_values();
-    series::marked_times();
-    series::other_times();
-    series::other_values();
-    series::floats();
-    series::refused_floats();
-    states::never_opened();
-    states::closed_before();
-    states::other_length();
-    states::small_buffers();
-    states::decoder_on_others();
-    states::cuts();
-    streams::windows();
-    streams::times();
-    streams::ends();
-    streams::cuts();
+use std::io;
+
+fn main(rt: HostRuntime) -> io::Result<()> {
+    let out = rt.stdout();
+    series::marked_values(out)?;
+    series::marked_times(out)?;
+    series::other_times(out)?;
+    series::other_values(out)?;
+    series::floats(out)?;
+    series::refused_floats(out)?;
+    states::never_opened(out)?;
+    states::closed_before(out)?;
+    states::other_length(out)?;
+    states::small_buffers(out)?;
+    states::decoder_on_others(out)?;
+    states::cuts(out)?;
+    streams::windows(out)?;
+    streams::times(out)?;
+    streams::ends(out)?;
+    streams::cuts(out)
 }

@@ -2,98 +2,103 @@
 
 use decode::std_decoder::Step;
 use encode::code::{Code, CodeAnswer};
-use libc::STDOUT_FILENO;
 use point::Stored;
+use std::io::{self, Stdout};
 use stream::{BitPos, Refusal};
 
-pub(super) fn say(text: &[u8]) {
-    io::write_all(STDOUT_FILENO, text);
+pub(super) fn say(out: Stdout, text: &[u8]) -> io::Result<()> {
+    out.write_all(text)
 }
 
-pub(super) fn say_number(n: u64) {
-    io::print_decimal(STDOUT_FILENO, n);
+pub(super) fn say_number(out: Stdout, n: u64) -> io::Result<()> {
+    print!(out; "{n}")
 }
 
-pub(super) fn say_refused(r: Refusal) {
-    say(b"refused ");
-    say_number(r.number() as u64);
+// In hex, with zeros in front of a number that has fewer digits than the width.
+fn say_hex(out: Stdout, n: u64, width: usize) -> io::Result<()> {
+    print!(out; "{n:0width$x}")
+}
+
+pub(super) fn say_refused(out: Stdout, r: Refusal) -> io::Result<()> {
+    say(out, b"refused ")?;
+    say_number(out, r.number() as u64)
 }
 
 // "T V", the value as its 64 bits in hex.
-pub(super) fn say_point(p: Stored) {
-    say_number(p.time);
-    say(b" ");
-    io::print_hex(STDOUT_FILENO, p.bits, 16);
+pub(super) fn say_point(out: Stdout, p: Stored) -> io::Result<()> {
+    say_number(out, p.time)?;
+    say(out, b" ")?;
+    say_hex(out, p.bits, 16)
 }
 
 // " B/L": L bits, as a number in hex.
-fn say_field(k: Code) {
-    say(b" ");
-    io::print_hex(STDOUT_FILENO, k.bits, 1);
-    say(b"/");
-    say_number(k.len as u64);
+fn say_field(out: Stdout, k: Code) -> io::Result<()> {
+    say(out, b" ")?;
+    say_hex(out, k.bits, 1)?;
+    say(out, b"/")?;
+    say_number(out, k.len as u64)
 }
 
 // "code N bits B/L B/L window A B": what stands before a value's digits, the digits, and the zeros above and below them in the window after them.
-pub(super) fn say_code(answer: CodeAnswer) {
-    say(b"code ");
+pub(super) fn say_code(out: Stdout, answer: CodeAnswer) -> io::Result<()> {
+    say(out, b"code ")?;
     match answer {
         CodeAnswer::Code(k) => {
             let head = k.head;
             let digits = k.digits;
-            say_number(head.len as u64 + digits.len as u64);
-            say(b" bits");
-            say_field(head);
-            say_field(digits);
-            say(b" window ");
-            say_number(k.leading as u64);
-            say(b" ");
-            say_number(k.trailing as u64);
+            say_number(out, head.len as u64 + digits.len as u64)?;
+            say(out, b" bits")?;
+            say_field(out, head)?;
+            say_field(out, digits)?;
+            say(out, b" window ")?;
+            say_number(out, k.leading as u64)?;
+            say(out, b" ")?;
+            say_number(out, k.trailing as u64)
         }
-        CodeAnswer::Refused(r) => say_refused(r),
+        CodeAnswer::Refused(r) => say_refused(out, r),
     }
 }
 
-fn say_at(p: BitPos) {
-    say(b" at ");
-    say_number(p.get() as u64);
+fn say_at(out: Stdout, p: BitPos) -> io::Result<()> {
+    say(out, b" at ")?;
+    say_number(out, p.get() as u64)
 }
 
 // A line for what a decoder's step answered.
-pub(super) fn say_step(answer: Step) {
+pub(super) fn say_step(out: Stdout, answer: Step) -> io::Result<()> {
     match answer {
         Step::Point(p, at) => {
-            say(b"point ");
-            say_point(p);
-            say_at(at);
+            say(out, b"point ")?;
+            say_point(out, p)?;
+            say_at(out, at)?;
         }
         Step::End(at) => {
-            say(b"end");
-            say_at(at);
+            say(out, b"end")?;
+            say_at(out, at)?;
         }
-        Step::Refused(r) => say_refused(r),
+        Step::Refused(r) => say_refused(out, r)?,
     }
-    say(b"\n");
+    say(out, b"\n")
 }
 
 fn wide(x: u8) -> u64 {
     x as u64
 }
 
-fn say_bytes(buf: &[u8]) {
-    let mut i: usize = 0;
-    while i < buf.len() {
-        io::print_hex(STDOUT_FILENO, wide(buf[i]), 2);
-        i += 1;
+fn say_bytes(out: Stdout, buf: &[u8]) -> io::Result<()> {
+    for x in buf {
+        say_hex(out, wide(*x), 2)?;
     }
+    Ok(())
 }
 
 // A line with the first n bytes and, behind a bar, the others, which must still be dirty.
-pub(super) fn say_buffer(buf: &[u8], n: usize) {
+pub(super) fn say_buffer(out: Stdout, buf: &[u8], n: usize) -> io::Result<()> {
     if n <= buf.len() {
-        say_bytes(&buf[0..n]);
-        say(b"|");
-        say_bytes(&buf[n..]);
-        say(b"\n");
+        say_bytes(out, &buf[0..n])?;
+        say(out, b"|")?;
+        say_bytes(out, &buf[n..])?;
+        say(out, b"\n")?;
     }
+    Ok(())
 }

@@ -3,6 +3,7 @@
 use super::calls::decoded;
 use super::say::{say, say_buffer, say_number};
 use encode::StdEncoder;
+use std::io::{self, Stdout};
 use stream::{Bit, BufferedWriter};
 
 fn with_digit(w: BufferedWriter, buf: &mut [u8], digit: u8) -> BufferedWriter {
@@ -23,110 +24,111 @@ fn with_digit(w: BufferedWriter, buf: &mut [u8], digit: u8) -> BufferedWriter {
 
 fn with_digits(w: BufferedWriter, buf: &mut [u8], digits: &[u8]) -> BufferedWriter {
     let mut now = w;
-    let mut i: usize = 0;
-    while i < digits.len() {
-        let digit = digits[i];
-        i += 1;
-        now = with_digit(now, buf, digit);
+    for digit in digits {
+        now = with_digit(now, buf, *digit);
     }
     now
 }
 
-fn with_start(buf: &mut [u8], start: u64) -> BufferedWriter {
-    say(b"start ");
-    say_number(start);
+fn with_start(out: Stdout, buf: &mut [u8], start: u64) -> io::Result<BufferedWriter> {
+    say(out, b"start ")?;
+    say_number(out, start)?;
     let w = BufferedWriter::new();
     let done = w.write_bits(buf, start, 64);
-    done.writer
+    Ok(done.writer)
 }
 
 // The last digits of a stream, then its bytes and what they are decoded to.
-fn ended_by(w: BufferedWriter, buf: &mut [u8], digits: &[u8]) {
-    say(b", then ");
-    say(digits);
-    say(b"\n");
+fn ended_by(out: Stdout, w: BufferedWriter, buf: &mut [u8], digits: &[u8]) -> io::Result<()> {
+    say(out, b", then ")?;
+    say(out, digits)?;
+    say(out, b"\n")?;
     let behind = with_digits(w, buf, digits);
     let n = behind.position().to_bytes().get();
-    say_buffer(buf, n);
-    decoded(buf, n);
+    say_buffer(out, buf, n)?;
+    decoded(out, buf, n)
 }
 
-fn after_start(start: u64, digits: &[u8]) {
+fn after_start(out: Stdout, start: u64, digits: &[u8]) -> io::Result<()> {
     let mut buf = [0xffu8; 48];
-    let w = with_start(&mut buf, start);
-    ended_by(w, &mut buf, digits);
+    let w = with_start(out, &mut buf, start)?;
+    ended_by(out, w, &mut buf, digits)
 }
 
 // Behind a first point: 10 after the start, 0.0.
-fn after_point(start: u64, digits: &[u8]) {
+fn after_point(out: Stdout, start: u64, digits: &[u8]) -> io::Result<()> {
     let mut buf = [0xffu8; 48];
-    let w = with_start(&mut buf, start);
-    say(b", a point");
+    let w = with_start(out, &mut buf, start)?;
+    say(out, b", a point")?;
     let timed = with_digits(w, &mut buf, b"0 00000000001010");
     let done = timed.write_bits(&mut buf, 0, 64);
-    ended_by(done.writer, &mut buf, digits);
+    ended_by(out, done.writer, &mut buf, digits)
 }
 
-pub(super) fn windows() {
+pub(super) fn windows(out: Stdout) -> io::Result<()> {
     // refused 9 before the digits, which are missing; then the widest window and the narrowest
-    after_point(0, b"0 11 000001 111111");
-    after_point(0, b"0 11 111111 000001");
+    after_point(out, 0, b"0 11 000001 111111")?;
+    after_point(out, 0, b"0 11 111111 000001")?;
     after_point(
+        out,
         0,
         b"0 11 000000 111111 1000000000000000000000000000000000000000000000000000000000000001 E",
-    );
-    after_point(0, b"0 11 111111 000000 1 E");
+    )?;
+    after_point(out, 0, b"0 11 111111 000000 1 E")?;
     // reuse before any opening
     after_point(
+        out,
         0,
         b"0 10 1000000000000000000000000000000000000000000000000000000000000001 E",
-    );
+    )?;
     // a zero xor in digits, then a xor for which the window is loose
-    after_point(0, b"0 11 000010 001001 0000000000 0 10 0000100000 E");
+    after_point(out, 0, b"0 11 000010 001001 0000000000 0 10 0000100000 E")
 }
 
-pub(super) fn times() {
+pub(super) fn times(out: Stdout) -> io::Result<()> {
     // down to a delta of 0; below it, refused 10 before the value, which is missing
-    after_point(0, b"10 1110110 0 E");
-    after_point(0, b"10 1110101");
+    after_point(out, 0, b"10 1110110 0 E")?;
+    after_point(out, 0, b"10 1110101")?;
     // up to the last time there is; past it, refused 11 before the value
-    after_point(u64::MAX - 20, b"0 0 E");
-    after_point(u64::MAX - 20, b"10 0000001");
-    after_start(u64::MAX, b"0 00000000000001");
+    after_point(out, u64::MAX - 20, b"0 0 E")?;
+    after_point(out, u64::MAX - 20, b"10 0000001")?;
+    after_start(out, u64::MAX, b"0 00000000000001")?;
     // the highest dod and the lowest
     after_point(
+        out,
         0,
         b"1111 10000000000000000000000000000000 0 1111 10000000000000000000000000000001 0 E",
-    );
+    )?;
     // rows that are longer than needed
     after_point(
+        out,
         0,
         b"10 0000000 0 110 000000000 0 1110 000000000000 0 1111 00000000000000000000000000000001 0 E",
-    );
+    )
 }
 
-pub(super) fn ends() {
+pub(super) fn ends(out: Stdout) -> io::Result<()> {
     // all of the marker but its last bit
-    after_point(0, b"0 0 0 0 0 0 1111 0000000000000000000000000000000");
+    after_point(out, 0, b"0 0 0 0 0 0 1111 0000000000000000000000000000000")?;
     // refused 8; refused 7 where 36 bits are not there
-    after_start(0, b"1111 00000000000000000000000000000001");
-    after_start(0, b"1000 00000000000000000000000000000000");
-    after_start(0, b"1111 0000000000000000000000000001");
+    after_start(out, 0, b"1111 00000000000000000000000000000001")?;
+    after_start(out, 0, b"1000 00000000000000000000000000000000")?;
+    after_start(out, 0, b"1111 0000000000000000000000000001")?;
     // what follows the end is of no account
-    after_start(0, b"E 1111 11111111");
+    after_start(out, 0, b"E 1111 11111111")
 }
 
 // Refused 7 at each kind of field. The digits fill their last byte, so that no zero stands in for a missing bit.
-pub(super) fn cuts() {
-    after_start(0, b"0 0000000");
-    after_start(0, b"0 00000000001010 0");
-    after_point(0, b"1");
-    after_point(0, b"110 000000");
-    after_point(0, b"0");
-    after_point(0, b"1110 000000000001 1");
+pub(super) fn cuts(out: Stdout) -> io::Result<()> {
+    after_start(out, 0, b"0 0000000")?;
+    after_start(out, 0, b"0 00000000001010 0")?;
+    after_point(out, 0, b"1")?;
+    after_point(out, 0, b"110 000000")?;
+    after_point(out, 0, b"0")?;
+    after_point(out, 0, b"1110 000000000001 1")?;
     // inside the leading zeros, behind them, and inside the number of digits, which would be refused 9 however it went on
-    after_point(0, b"110 000000001 11 000");
-    after_point(0, b"0 11 000010");
-    after_point(0, b"1110 000000000001 11 111111 1");
-    after_point(0, b"0 11 000010 001010 1111111111");
+    after_point(out, 0, b"110 000000001 11 000")?;
+    after_point(out, 0, b"0 11 000010")?;
+    after_point(out, 0, b"1110 000000000001 11 111111 1")?;
+    after_point(out, 0, b"0 11 000010 001010 1111111111")
 }
