@@ -2,6 +2,13 @@
 
 ghost use Rattle.std.specs.Prelude.{length, ◌≡◌};
 
+// For what one read takes of the input.
+pub(super) fn piece_buffer() -> [u8; 65_536]
+    ensures { 65536 ≡ length result }
+{
+    io::large_buffer()
+}
+
 // For a line. 12,288 bytes are a stream of 6,143 bytes, or 646 points of the shortest kind.
 pub(super) fn line_buffer() -> [u8; 12_288]
     ensures { 12288 ≡ length result }

@@ -18,14 +18,12 @@ fn told(s: &[u8], out: &mut [u8], from: usize) -> usize
     let opened = StdDecoder::open(s);
     let mut d = opened.decoder;
     let mut used = from;
-    let mut points: u64 = 0;
-    while points < STEPS {
+    for _ in 0..STEPS {
         let next = d.next(s);
         let answer = next.answer;
         d = next.decoder;
         match answer {
             Step::Point(p, at) => {
-                points += 1;
                 used = page::put_point(out, used, p);
             }
             Step::End(at) => {

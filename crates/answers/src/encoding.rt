@@ -119,9 +119,7 @@ fn sat_through(line: &[u8], start: u64, at: usize, buf: &mut [u8]) -> Sitting {
         at,
     };
     // a word has three bytes or more, and one turn is left to find the end
-    let mut turns: usize = 0;
-    while turns < line.len() {
-        turns += 1;
+    for _ in 0..line.len() {
         let outcome = now.outcome;
         if !is_going(outcome) {
             return now;

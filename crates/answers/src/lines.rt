@@ -1,10 +1,11 @@
 // Standard input, line by line. It is read in pieces and never held whole.
 
-use libc::STDIN_FILENO;
+use std::io::{self, Read, Stdin};
 
-// What was read and not yet taken: piece[at..n].
+// The input, and what was read of it and not yet taken: piece[at..n].
 #[derive(Clone, Copy)]
 pub(super) struct Source {
+    input: Stdin,
     at: usize,
     n: usize,
 }
@@ -13,7 +14,6 @@ pub(super) struct Source {
 enum Got {
     Byte(u8),
     End,
-    Failed,
 }
 
 // A byte, and the source behind it.
@@ -23,13 +23,12 @@ struct Pulled {
     source: Source,
 }
 
-// A line of so many bytes, without its line feed; one that is longer than the buffer for it; the end of the input; or a read that failed.
+// A line of so many bytes, without its line feed; one that is longer than the buffer for it; or the end of the input.
 #[derive(Clone, Copy)]
 pub(super) enum Line {
     Bytes(usize),
     Longer,
     End,
-    Failed,
 }
 
 #[derive(Clone, Copy)]
@@ -39,39 +38,35 @@ pub(super) struct Taken {
 }
 
 // Reads once, and takes the first byte of what came.
-fn pull_new(piece: &mut [u8]) -> Pulled {
-    let mut got = Got::Failed;
-    let source = Source { at: 0, n: 0 };
-    let answered = libc::read(STDIN_FILENO, piece);
-    if answered == 0 {
-        got = Got::End;
+fn pull_new(piece: &mut [u8], mut input: Stdin) -> io::Result<Pulled> {
+    let n = input.read(piece)?;
+    if n == 0 {
+        let source = Source::new(input);
+        return Ok(Pulled {
+            got: Got::End,
+            source,
+        });
     }
-    if answered <= 0 {
-        return Pulled { got, source };
-    }
-    let n = io::count(answered, piece);
-    if piece.len() == 0 {
-        return Pulled { got, source };
-    }
-    let b = piece[0];
-    got = Got::Byte(b);
-    let source = Source { at: 1, n };
-    Pulled { got, source }
+    let got = Got::Byte(piece[0]);
+    let source = Source { input, at: 1, n };
+    Ok(Pulled { got, source })
 }
 
-fn pull(piece: &mut [u8], source: Source) -> Pulled {
-    let at = source.at;
-    let n = source.n;
+fn pull(piece: &mut [u8], source: Source) -> io::Result<Pulled> {
+    let Source { input, at, n } = source;
     if n <= at {
-        return pull_new(piece);
+        return pull_new(piece, input);
     }
     if piece.len() <= at {
-        return pull_new(piece);
+        return pull_new(piece, input);
     }
-    let b = piece[at];
-    let got = Got::Byte(b);
-    let source = Source { at: at + 1, n };
-    Pulled { got, source }
+    let got = Got::Byte(piece[at]);
+    let source = Source {
+        input,
+        at: at + 1,
+        n,
+    };
+    Ok(Pulled { got, source })
 }
 
 // What a line of n bytes is at its end.
@@ -101,39 +96,32 @@ fn with_byte(line: &mut [u8], n: usize, b: u8) -> usize {
 
 impl Source {
     // Before the first byte.
-    pub(super) fn new() -> Source {
-        Source { at: 0, n: 0 }
+    pub(super) fn new(input: Stdin) -> Source {
+        Source { input, at: 0, n: 0 }
     }
 
-    // Takes the next line into a buffer. A loop has to end, and nothing says that a line does: it counts its turns down from a number that no line uses up.
-    pub(super) fn next_line(self, piece: &mut [u8], into: &mut [u8]) -> Taken {
+    // Takes the next line into a buffer. A loop has to end, and nothing says that a line does: it takes as many turns as no line uses up.
+    pub(super) fn next_line(self, piece: &mut [u8], into: &mut [u8]) -> io::Result<Taken> {
         let mut source = self;
         let mut n: usize = 0;
-        let mut turns = u64::MAX;
-        while 0 < turns {
-            turns -= 1;
-            let pulled = pull(piece, source);
+        for _ in 0..u64::MAX {
+            let pulled = pull(piece, source)?;
             source = pulled.source;
             let got = pulled.got;
             match got {
-                Got::Failed => {
-                    let line = Line::Failed;
-                    return Taken { line, source };
-                }
                 Got::End => {
                     let line = last(into, n);
-                    return Taken { line, source };
+                    return Ok(Taken { line, source });
                 }
                 Got::Byte(b) => {
                     if b == b'\n' {
                         let line = whole(into, n);
-                        return Taken { line, source };
+                        return Ok(Taken { line, source });
                     }
                     n = with_byte(into, n, b);
                 }
             }
         }
-        let line = Line::Failed;
-        Taken { line, source }
+        Err(io::Error::other("a line does not end"))
     }
 }

@@ -18,12 +18,12 @@ mod record;
 mod words;
 mod writing;
 
-ghost use Rattle.std.specs.Prelude.{◌≤◌, length, ◌≡◌};
+ghost use Rattle.std.specs.Prelude.{◌≤◌, length, ◌≡◌, IfOk};
 
 use buffers::OUTPUT;
-use libc::STDOUT_FILENO;
 use lines::{Line, Source};
 use record::Count;
+use std::io::{self, Stdin, Stdout};
 
 // Whether a line's output fits behind out[0..used].
 fn has_room(out: &[u8], used: usize) -> bool {
@@ -33,18 +33,16 @@ fn has_room(out: &[u8], used: usize) -> bool {
     OUTPUT <= out.len() - used
 }
 
-// Where the next line's output may begin. A full page is written first; it stays full if that failed.
-fn room(out: &[u8], used: usize) -> usize
+// Where the next line's output may begin. A full page is written first.
+fn room(stdout: Stdout, out: &[u8], used: usize) -> io::Result<usize>
     requires { used ≤ length out.now }
-    ensures { result ≤ length out.now }
+    ensures { IfOk result (λ from. from ≤ length out.now) }
 {
     if has_room(out, used) {
-        return used;
+        return Ok(used);
     }
-    if io::write_all(STDOUT_FILENO, &out[0..used]) {
-        return 0;
-    }
-    used
+    stdout.write_all(&out[0..used])?;
+    Ok(0)
 }
 
 // Where the page ends, and the count of the answers on record.
@@ -105,13 +103,11 @@ fn put_longer(out: &mut [u8], used: usize) -> usize
 }
 
 // The end of the output: what still stands in the page, and the count.
-fn write_last(out: &mut [u8], used: usize, count: Count)
+fn write_last(stdout: Stdout, out: &mut [u8], used: usize, count: Count) -> io::Result<()>
     requires { used ≤ length out.old }
 {
     let end = count.put(out, used);
-    if !io::write_all(STDOUT_FILENO, &out[0..end]) {
-        os::fail(b"answers: standard output");
-    }
+    stdout.write_all(&out[0..end])
 }
 
 // A run: whether it goes on, the page, the count, and what is left of the input.
@@ -150,67 +146,88 @@ fn over(run: Run) -> Run
 }
 
 // What comes of a line, or of the input's end.
-fn with_found(found: Line, line: &[u8], buf: &mut [u8], out: &mut [u8], run: Run) -> Run
+fn with_found(
+    found: Line,
+    line: &[u8],
+    buf: &mut [u8],
+    stdout: Stdout,
+    out: &mut [u8],
+    run: Run,
+) -> io::Result<Run>
     requires { run.used ≤ length out.old }
-    ensures { result.used ≤ length out.old }
+    ensures { IfOk result (λ after. after.used ≤ length out.old) }
 {
     let used = run.used;
     let count = run.count;
     let source = run.source;
     match found {
-        Line::Bytes(n) => going_on(with_line(line, n, buf, out, used, count), source),
+        Line::Bytes(n) => {
+            let turn = with_line(line, n, buf, out, used, count);
+            Ok(going_on(turn, source))
+        }
         Line::Longer => {
             let told = put_longer(out, used);
-            going_on(Turn { used: told, count }, source)
+            Ok(going_on(Turn { used: told, count }, source))
         }
         Line::End => {
-            write_last(out, used, count);
-            over(run)
-        }
-        Line::Failed => {
-            os::fail(b"answers: standard input");
-            over(run)
+            write_last(stdout, out, used, count)?;
+            Ok(over(run))
         }
     }
 }
 
 // The run with a line more.
-fn step(piece: &mut [u8], line: &mut [u8], buf: &mut [u8], out: &mut [u8], run: Run) -> Run
+fn step(
+    piece: &mut [u8],
+    line: &mut [u8],
+    buf: &mut [u8],
+    stdout: Stdout,
+    out: &mut [u8],
+    run: Run,
+) -> io::Result<Run>
     requires { run.used ≤ length out.old }
-    ensures { result.used ≤ length out.old }
+    ensures { IfOk result (λ after. after.used ≤ length out.old) }
 {
-    let used = room(out, run.used);
-    if !has_room(out, used) {
-        os::fail(b"answers: standard output");
-        return over(run);
-    }
+    let used = room(stdout, out, run.used)?;
     let source = run.source;
     let count = run.count;
-    let taken = source.next_line(piece, line);
+    let taken = source.next_line(piece, line)?;
     let found = taken.line;
     let rest = going_on(Turn { used, count }, taken.source);
-    with_found(found, line, buf, out, rest)
+    with_found(found, line, buf, stdout, out, rest)
 }
 
-// Answers every line of the input. A loop has to end, and nothing says that an input does: it counts its turns down from a number that no run
-// uses up.
-fn answer_all(piece: &mut [u8], line: &mut [u8], buf: &mut [u8], out: &mut [u8]) {
+// Answers every line of the input. A loop has to end, and nothing says that an input does: it takes as many turns as no run uses up.
+fn answer_all(
+    stdin: Stdin,
+    piece: &mut [u8],
+    line: &mut [u8],
+    buf: &mut [u8],
+    stdout: Stdout,
+    out: &mut [u8],
+) -> io::Result<()> {
     let count = Count::new();
-    let mut run = going_on(Turn { used: 0, count }, Source::new());
-    let mut turns = u64::MAX;
-    while 0 < turns {
-        turns -= 1;
-        run = step(piece, line, buf, out, run);
+    let mut run = going_on(Turn { used: 0, count }, Source::new(stdin));
+    for _ in 0..u64::MAX {
+        run = step(piece, line, buf, stdout, out, run)?;
         if !run.going {
-            return;
+            break;
         }
     }
+    Ok(())
 }
 
-fn main() {
-    let mut piece = io::large_buffer();
+fn main(rt: HostRuntime) -> io::Result<()> {
+    let mut piece = buffers::piece_buffer();
     let mut line = buffers::line_buffer();
     let mut buf = buffers::lent_buffer();
     let mut out = buffers::page_buffer();
-    answer_all(&mut piece, &mut line, &mut buf, &mut out);
+    answer_all(
+        rt.stdin(),
+        &mut piece,
+        &mut line,
+        &mut buf,
+        rt.stdout(),
+        &mut out,
+    )
 }

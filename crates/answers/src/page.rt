@@ -10,13 +10,10 @@ pub(super) fn put(out: &mut [u8], used: usize, text: &[u8]) -> usize
     requires { used ≤ length out.old }
     ensures { result ≤ length out.old }
 {
-    let room = out.len() - used;
-    if room < text.len() {
-        bytes::copy(&text[0..room], &mut out[used..]);
-        return out.len();
-    }
-    bytes::copy(text, &mut out[used..]);
-    used + text.len()
+    let n = text.len().min(out.len() - used);
+    let end = used + n;
+    out[used..end].copy_from_slice(&text[..n]);
+    end
 }
 
 pub(super) fn put_decimal(out: &mut [u8], used: usize, n: u64) -> usize
@@ -78,11 +75,8 @@ pub(super) fn put_bytes(out: &mut [u8], used: usize, bytes: &[u8]) -> usize
         return put(out, used, b"-");
     }
     let mut at = used;
-    let mut i: usize = 0;
-    while i < bytes.len() {
-        let b = wide(bytes[i]);
-        i += 1;
-        at = put_hex(out, at, b, 2);
+    for b in bytes {
+        at = put_hex(out, at, wide(*b), 2);
     }
     at
 }

@@ -129,13 +129,11 @@ fn told(line: &[u8], start: usize, s: &[u8], out: &mut [u8], from: usize) -> usi
     let mut reader = BufferedReader::new();
     let mut at = start;
     let mut used = from;
-    let mut turns: usize = 0;
-    while turns < line.len() {
+    for turns in 0..line.len() {
         if line.len() <= at {
             return used;
         }
         used = parted(out, used, turns);
-        turns += 1;
         let turn = turn_at(line, at, reader, s);
         reader = turn.reader;
         at = turn.at;

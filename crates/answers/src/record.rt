@@ -24,16 +24,10 @@ fn one_before(i: usize) -> usize
 pub(super) fn case_end(line: &[u8]) -> usize
     ensures { result ≤ length line.now }
 {
-    let mut i: usize = 0;
-    while i < line.len() {
-        let b = line[i];
-        if b == b'=' {
+    for (i, b) in line.iter().enumerate() {
+        if *b == b'=' || *b == b'~' {
             return one_before(i);
         }
-        if b == b'~' {
-            return one_before(i);
-        }
-        i += 1;
     }
     line.len()
 }
@@ -42,14 +36,10 @@ fn equal(a: &[u8], b: &[u8]) -> bool {
     if a.len() != b.len() {
         return false;
     }
-    let mut i: usize = 0;
-    while i < a.len() {
-        let x = a[i];
-        let y = b[i];
-        if x != y {
+    for (i, x) in a.iter().enumerate() {
+        if *x != b[i] {
             return false;
         }
-        i += 1;
     }
     true
 }

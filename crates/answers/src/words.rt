@@ -97,11 +97,8 @@ fn with_hex(so_far: Number, d: u8) -> Number {
 // The number in the digits from a place on, of base 10 or, if hex, 16.
 fn number_at(line: &[u8], start: usize, hex: bool) -> Number {
     let mut found = no_number(start);
-    let mut i = start;
-    while i < line.len() {
-        let b = line[i];
-        i += 1;
-        let d = digit_of(b);
+    for i in start..line.len() {
+        let d = digit_of(line[i]);
         if 15 < d {
             return found;
         }
@@ -116,7 +113,7 @@ fn number_at(line: &[u8], start: usize, hex: bool) -> Number {
         if !found.ok {
             return found;
         }
-        found.at = i;
+        found.at = i + 1;
     }
     found
 }
@@ -146,9 +143,8 @@ fn put_pair(buf: &mut [u8], k: usize, high: u8, low: u8) -> bool {
 
 // Bytes, two hex digits each, from a place on, put at buf's start.
 fn pairs_at(line: &[u8], start: usize, buf: &mut [u8]) -> Bytes {
-    let mut count: usize = 0;
     let mut at = start;
-    while count < line.len() {
+    for count in 0..line.len() {
         let high = digit_of(byte_at(line, at));
         if 15 < high {
             return Bytes {
@@ -166,7 +162,6 @@ fn pairs_at(line: &[u8], start: usize, buf: &mut [u8]) -> Bytes {
                 at,
             };
         }
-        count += 1;
         at = after(line, second);
     }
     Bytes {

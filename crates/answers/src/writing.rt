@@ -178,9 +178,7 @@ fn sat_through(line: &[u8], buf: &mut [u8]) -> Sitting {
         at: 1,
     };
     // a word has two bytes or more, and one turn is left to find the end
-    let mut turns: usize = 0;
-    while turns < line.len() {
-        turns += 1;
+    for _ in 0..line.len() {
         let outcome = now.outcome;
         if !is_going(outcome) {
             return now;
