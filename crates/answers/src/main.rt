@@ -18,7 +18,7 @@ mod record;
 mod words;
 mod writing;
 
-ghost use Rattle.std.specs.Prelude.{◌≤◌, length, ◌≡◌, IfOk};
+ghost use Rattle.std.specs.Prelude.{◌≤◌, ◌<◌, ◌+◌, ◌↔◌, length, ◌≡◌, IfOk, IfErr, IsTrue};
 
 use buffers::OUTPUT;
 use lines::{Line, Source};
@@ -26,17 +26,20 @@ use record::Count;
 use std::io::{self, Stdin, Stdout};
 
 // Whether a line's output fits behind out[0..used].
-fn has_room(out: &[u8], used: usize) -> bool {
+fn has_room(out: &[u8], used: usize) -> bool
+    ensures { IsTrue result ↔ (used + OUTPUT ≤ length out.now) }
+{
     if out.len() < used {
         return false;
     }
     OUTPUT <= out.len() - used
 }
 
-// Where the next line's output may begin. A full page is written first.
+// Where the next line's output may begin. A full page is written first; only that can fail.
 fn room(stdout: Stdout, out: &[u8], used: usize) -> io::Result<usize>
     requires { used ≤ length out.now }
-    ensures { IfOk result (λ from. from ≤ length out.now) }
+    ensures within { IfOk result (λ from. from ≤ length out.now) }
+    ensures full { IfErr result (λ _. length out.now < used + OUTPUT) }
 {
     if has_room(out, used) {
         return Ok(used);
@@ -155,7 +158,8 @@ fn with_found(
     run: Run,
 ) -> io::Result<Run>
     requires { run.used ≤ length out.old }
-    ensures { IfOk result (λ after. after.used ≤ length out.old) }
+    ensures within { IfOk result (λ after. after.used ≤ length out.old) }
+    ensures ended { IfErr result (λ _. found ≡ Line.End) }
 {
     let used = run.used;
     let count = run.count;

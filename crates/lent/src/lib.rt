@@ -1,5 +1,6 @@
 // Shapes that people know from the Rust, thin over the core: a reader that holds the lent bytes and its position together, and states that are lent
-// and changed in place. Above each shape there is a function with plain parameters, which takes the state by value and hands it back.
+// and changed in place. Above each shape there is a function with plain parameters, which makes the reader, or takes the
+// state by value, lends it and hands it back.
 
 #![tactic(auto)]
 

@@ -1,4 +1,4 @@
-// A whole series in one call, for programs in other languages: the header is include/tsz.h.
+// A whole series in one call. Crate tsz_c hands these calls to programs in other languages; the header is include/tsz.h.
 
 #![tactic(auto)]
 

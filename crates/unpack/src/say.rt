@@ -1,7 +1,7 @@
 // What the program writes. Lines gather in a page, `out[0..used]`, which goes to standard output when there is no room for one more. What is
 // written is tested and not proved, so the contracts say only where a page ends.
 
-ghost use Rattle.std.specs.Prelude.{◌≤◌, length, IfOk};
+ghost use Rattle.std.specs.Prelude.{◌≤◌, ◌<◌, ◌+◌, ◌↔◌, length, IfOk, IfErr, IsTrue};
 
 use point::Stored;
 use std::fmt::InlineText;
@@ -26,10 +26,11 @@ fn put(out: &mut [u8], used: usize, text: &[u8]) -> usize
     end
 }
 
-// Where the next line may begin. A full page is written first.
+// Where the next line may begin. A full page is written first; only that can fail.
 pub(super) fn room(rt: &impl Print, out: &[u8], used: usize) -> io::Result<usize>
     requires { used ≤ length out.now }
-    ensures { IfOk result (λ n. n ≤ length out.now) }
+    ensures within { IfOk result (λ n. n ≤ length out.now) }
+    ensures full { IfErr result (λ _. length out.now < used + LINE) }
 {
     if has_room(out, used) {
         return Ok(used);
@@ -39,7 +40,9 @@ pub(super) fn room(rt: &impl Print, out: &[u8], used: usize) -> io::Result<usize
 }
 
 // Whether a line fits behind out[0..used].
-pub(super) fn has_room(out: &[u8], used: usize) -> bool {
+pub(super) fn has_room(out: &[u8], used: usize) -> bool
+    ensures { IsTrue result ↔ (used + LINE ≤ length out.now) }
+{
     if out.len() < used {
         return false;
     }
