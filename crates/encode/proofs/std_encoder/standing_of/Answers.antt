@@ -1,4 +1,5 @@
 use mathlib.Core.Path.{sym, ◌∙◌}
+use borrow.Author.Rules.{rules}
 use Rattle.encode.proofs.CallLaws.{standing_faults}
 use Rattle.encode.proofs.std_encoder.standing_of.Goals as goal
 
@@ -6,7 +7,7 @@ pub returns-then-e : goal.returns-then-e
 returns-then-e c = sym ((standing_faults 6 _ _).closed c.if-e.true)
 
 pub returns-then-no_fit : goal.returns-then-no_fit
-returns-then-no_fit c = sym ((standing_faults 6 _ _).misfit c.if-e.false (sym c.no_fit.ensures ∙ c.if-no_fit.true))
+returns-then-no_fit c = sym ((standing_faults 6 _ _).misfit (search rules) (sym c.no_fit.ensures ∙ c.if-no_fit.true))
 
 pub returns : goal.returns
-returns c = sym ((standing_faults 6 _ _).stands c.if-e.false (sym c.no_fit.ensures ∙ c.if-no_fit.false))
+returns c = sym ((standing_faults 6 _ _).stands (search rules) (sym c.no_fit.ensures ∙ c.if-no_fit.false))
