@@ -3,25 +3,17 @@ use mathlib.Core.Path.{◌≡◌, refl, ap}
 use mathlib.Core.Bool.{Bool}
 use mathlib.Core.List.{List}
 use Prim.Native.Nat.{ℕ}
+use Rattle.std.specs.Prelude.{Ok, Err, Some, None, ⊤}
+use Rattle.std.specs.declared.option.Option.{Option}
+use Rattle.std.specs.declared.result.Result.{Result}
 use Rattle.stream.specs.Refusals.{number_of}
-use Rattle.stream.specs.Calls.{Told, refused, bit_number, tell_write, tell_bit, tell_byte, tell_bits, tell_ahead, tell_in_bits, told_write}
+use Rattle.stream.specs.Calls.{Told, refused, bit_number, tell, tell_write, tell_bit, tell_byte, tell_bits, tell_ahead, tell_in_bits, told_write}
 use Rattle.stream.specs.Promises.{AreBytes, Tells, OneOutcome}
 use Rattle.stream.specs.declared.Bit.{Bit}
 use Rattle.stream.specs.declared.Bit.TheVariants.{Zero, One}
 use Rattle.stream.specs.declared.refusal.Refusal.{Refusal}
-use Rattle.stream.specs.declared.position.InBits.{InBits}
-use Rattle.stream.specs.declared.position.InBits.TheVariants as in_bits
-use Rattle.stream.specs.declared.buffered_write.WriteAnswer.{WriteAnswer}
-use Rattle.stream.specs.declared.buffered_write.WriteAnswer.TheVariants as wrote
+use Rattle.stream.specs.declared.position.BitPos.{BitPos}
 use Rattle.stream.specs.declared.buffered_write.Written.{Written}
-use Rattle.stream.specs.declared.buffered_read.BitAnswer.{BitAnswer}
-use Rattle.stream.specs.declared.buffered_read.BitAnswer.TheVariants as one
-use Rattle.stream.specs.declared.buffered_read.ByteAnswer.{ByteAnswer}
-use Rattle.stream.specs.declared.buffered_read.ByteAnswer.TheVariants as byte
-use Rattle.stream.specs.declared.buffered_read.BitsAnswer.{BitsAnswer}
-use Rattle.stream.specs.declared.buffered_read.BitsAnswer.TheVariants as many
-use Rattle.stream.specs.declared.buffered_read.Ahead.{Ahead}
-use Rattle.stream.specs.declared.buffered_read.Ahead.TheVariants as ahead
 use Rattle.stream.proofs.Bytes.{bits_inj}
 use Rattle.stream.proofs.Outcomes.{by_number}
 
@@ -36,41 +28,33 @@ by_bit Zero One e = cc
 by_bit One Zero e = cc
 by_bit One One e = refl
 
-write_told : Tells WriteAnswer Told tell_write
-write_told wrote.Done wrote.Done e = refl
-write_told wrote.Done (wrote.Refused s) e = cc
-write_told (wrote.Refused r) wrote.Done e = cc
-write_told (wrote.Refused r) (wrote.Refused s) e = ap wrote.Refused (refused_once r s e)
+-- a result is what is told of it, where its values are
+told : {A : Type 0} (values : A → List ℕ) → Tells A (List ℕ) values → Tells (Result A Refusal) Told (tell values)
+told values once (Ok x) (Ok y) e = let n : values x ≡ values y = cc in ap Ok (once x y n)
+told values once (Ok x) (Err s) e = cc
+told values once (Err r) (Ok y) e = cc
+told values once (Err r) (Err s) e = ap Err (refused_once r s e)
 
-bit_told : Tells BitAnswer Told tell_bit
-bit_told (one.Bit a) (one.Bit b) e = let n : bit_number a ≡ bit_number b = cc in ap one.Bit (by_bit a b n)
-bit_told (one.Bit a) (one.Refused s) e = cc
-bit_told (one.Refused r) (one.Bit b) e = cc
-bit_told (one.Refused r) (one.Refused s) e = ap one.Refused (refused_once r s e)
+write_told : Tells (Result ⊤ Refusal) Told tell_write
+write_told = told _ (λ u v e. refl)
 
-byte_told : Tells ByteAnswer Told tell_byte
-byte_told (byte.Byte x) (byte.Byte y) e = let n : x ≡ y = cc in ap byte.Byte n
-byte_told (byte.Byte x) (byte.Refused s) e = cc
-byte_told (byte.Refused r) (byte.Byte y) e = cc
-byte_told (byte.Refused r) (byte.Refused s) e = ap byte.Refused (refused_once r s e)
+bit_told : Tells (Result Bit Refusal) Told tell_bit
+bit_told = told _ (λ a b e. let n : bit_number a ≡ bit_number b = cc in by_bit a b n)
 
-bits_told : Tells BitsAnswer Told tell_bits
-bits_told (many.Bits x) (many.Bits y) e = let n : x ≡ y = cc in ap many.Bits n
-bits_told (many.Bits x) (many.Refused s) e = cc
-bits_told (many.Refused r) (many.Bits y) e = cc
-bits_told (many.Refused r) (many.Refused s) e = ap many.Refused (refused_once r s e)
+byte_told : Tells (Result ℕ Refusal) Told tell_byte
+byte_told = told _ (λ x y e. let n : x ≡ y = cc in n)
 
-ahead_told : Tells Ahead Told tell_ahead
-ahead_told ahead.Short ahead.Short e = refl
-ahead_told ahead.Short (ahead.Word w) e = cc
-ahead_told (ahead.Word v) ahead.Short e = cc
-ahead_told (ahead.Word v) (ahead.Word w) e = let n : v ≡ w = cc in ap ahead.Word n
+bits_told : Tells (Result ℕ Refusal) Told tell_bits
+bits_told = told _ (λ x y e. let n : x ≡ y = cc in n)
 
-place_told : Tells InBits Told tell_in_bits
-place_told (in_bits.At p) (in_bits.At q) e = let n : p.0 ≡ q.0 = cc in λ i. in_bits.At (record { 0 = n i })
-place_told (in_bits.At p) (in_bits.Refused s) e = cc
-place_told (in_bits.Refused r) (in_bits.At q) e = cc
-place_told (in_bits.Refused r) (in_bits.Refused s) e = ap in_bits.Refused (refused_once r s e)
+place_told : Tells (Result BitPos Refusal) Told tell_in_bits
+place_told = told _ (λ p q e. let n : p.0 ≡ q.0 = cc in λ i. record { 0 = n i })
+
+ahead_told : Tells (Option ℕ) Told tell_ahead
+ahead_told None None e = refl
+ahead_told None (Some w) e = cc
+ahead_told (Some v) None e = cc
+ahead_told (Some v) (Some w) e = let n : v ≡ w = cc in ap Some n
 
 -- ---- calls
 

@@ -15,9 +15,8 @@ use Rattle.stream.specs.Fits.{fault_of}
 use Rattle.stream.specs.Promises.{FieldFaults, Tells}
 use Rattle.stream.specs.declared.refusal.Refusal.{Refusal}
 use Rattle.stream.specs.declared.refusal.Refusal.TheVariants.{NoRoom, TimeFalls, FirstDelta, DodRange, TooLong, NoStart, CutShort, BadEnd, BadWindow, ReadTimeFalls, ReadTimePasses, Closed, NoFit}
-use Rattle.stream.specs.declared.field.Fit.{Fit}
-use Rattle.stream.specs.declared.field.Fit.TheVariants.{Whole}
-use Rattle.stream.specs.declared.buffered_read.BitsAnswer.{BitsAnswer}
+use Rattle.std.specs.Prelude.{Ok, ⊤}
+use Rattle.std.specs.declared.result.Result.{Result}
 use Rattle.stream.proofs.Taking.{field_lt}
 
 -- ---- rules in order
@@ -127,8 +126,8 @@ place_beyond n h = simp (lt-ltb limit n h)
 -- ---- calls
 
 -- a field that fits has no fault
-pub no_fault : (f : Fit) (k : ℕ) → f ≡ Whole → fault_of f ≡ k → 0 ≡ k
-no_fault f k e h = sym (ap fault_of e) ∙ h
+pub no_fault : (f : Result ⊤ Refusal) (k : ℕ) (u : ⊤) → f ≡ Ok u → fault_of f ≡ k → 0 ≡ k
+no_fault f k u e h = sym (ap fault_of e) ∙ h
 
 module _ (l : List ℕ) (p x num n : ℕ) (e : n ≡ width num) where
   pub wrote_not : (r : Refusal) → number_of r ≡ field_fault 1 (length l) p n → (refused (number_of r), p, bits l) ≡ write_of l p x num
@@ -168,8 +167,8 @@ module _ (l : List ℕ) (p n : ℕ) (few : n ≤ 64) (short : length l ≤ limit
       in rw (min-eq_left few) (by_some _ _ _ some)
 
 -- the answer by its case
-pub told_as : (l : List ℕ) (p num q : ℕ) (a b : BitsAnswer) → a ≡ b → (tell_bits a, q) ≡ read_of l p num → (tell_bits b, q) ≡ read_of l p num
-told_as l p num q a b e h = sym (ap (λ (x : BitsAnswer). (tell_bits x, q)) e) ∙ h
+pub told_as : (l : List ℕ) (p num q : ℕ) (a b : Result ℕ Refusal) → a ≡ b → (tell_bits a, q) ≡ read_of l p num → (tell_bits b, q) ≡ read_of l p num
+told_as l p num q a b e h = sym (ap (λ (x : Result ℕ Refusal). (tell_bits x, q)) e) ∙ h
 
 -- a number that was read has no more digits than were asked for
 got_lt : (k p q v r n x : ℕ) → (given (v ∷ []), r) ≡ by_fault {A = Told × ℕ} k (given (x ∷ []), q) (λ r. (refused r, p)) → x < 2 ^ n → v < 2 ^ n

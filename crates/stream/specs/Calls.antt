@@ -1,25 +1,15 @@
 -- What the calls of the bit writer and the bit reader tell, and what a write leaves: document 01, "Port order", 2.
-use Rattle.std.specs.Prelude.{Bool, cond, List, [], ◌∷◌, ℕ, ◌+◌, ◌*◌, ◌/◌, min, length, ltb}
+use Rattle.std.specs.Prelude.{Bool, cond, List, [], ◌∷◌, ℕ, ◌+◌, ◌*◌, ◌/◌, min, length, ltb, Ok, Err, Some, None, ⊤}
+use Rattle.std.specs.declared.option.Option.{Option}
+use Rattle.std.specs.declared.result.Result.{Result}
 use Rattle.stream.specs.Bits.{bits_of, value_of, bits, field, replaced}
 use Rattle.stream.specs.Refusals.{number_of, when, or_else, by_fault}
 use Rattle.stream.specs.declared.Bit.{Bit}
 use Rattle.stream.specs.declared.Bit.TheVariants.{Zero, One}
-use Rattle.stream.specs.declared.position.InBits.{InBits}
-use Rattle.stream.specs.declared.position.InBits.TheVariants as in_bits
-use Rattle.stream.specs.declared.buffered_write.WriteAnswer.{WriteAnswer}
-use Rattle.stream.specs.declared.buffered_write.WriteAnswer.TheVariants as wrote
-use Rattle.stream.specs.declared.buffered_read.BitAnswer.{BitAnswer}
-use Rattle.stream.specs.declared.buffered_read.BitAnswer.TheVariants as bit
-use Rattle.stream.specs.declared.buffered_read.ByteAnswer.{ByteAnswer}
-use Rattle.stream.specs.declared.buffered_read.ByteAnswer.TheVariants as byte
-use Rattle.stream.specs.declared.buffered_read.BitsAnswer.{BitsAnswer}
-use Rattle.stream.specs.declared.buffered_read.BitsAnswer.TheVariants as many
-use Rattle.stream.specs.declared.buffered_read.Ahead.{Ahead}
-use Rattle.stream.specs.declared.buffered_read.Ahead.TheVariants as ahead
+use Rattle.stream.specs.declared.refusal.Refusal.{Refusal}
+use Rattle.stream.specs.declared.position.BitPos.{BitPos}
 use Rattle.stream.specs.declared.buffered_write.Written.{Written}
-use Rattle.stream.specs.declared.buffered_read.BitRead.{BitRead}
-use Rattle.stream.specs.declared.buffered_read.ByteRead.{ByteRead}
-use Rattle.stream.specs.declared.buffered_read.BitsRead.{BitsRead}
+use Rattle.stream.specs.declared.buffered_read.Reading.{Reading}
 
 -- the most bytes that a lent buffer may have
 abbrev pub limit : ℕ
@@ -35,42 +25,42 @@ abbrev pub bit_number : Bit → ℕ
 bit_number Zero = 0
 bit_number One = 1
 
-abbrev pub tell_write : WriteAnswer → Told
-tell_write wrote.Done = given []
-tell_write (wrote.Refused r) = refused (number_of r)
+-- of a result: the values of what it gives, or the number of its refusal
+abbrev pub tell : {A : Type 0} → (A → List ℕ) → Result A Refusal → Told
+tell values (Ok x) = given (values x)
+tell values (Err r) = refused (number_of r)
 
-abbrev pub tell_bit : BitAnswer → Told
-tell_bit (bit.Bit b) = given (bit_number b ∷ [])
-tell_bit (bit.Refused r) = refused (number_of r)
+abbrev pub tell_write : Result ⊤ Refusal → Told
+tell_write = tell (λ done. [])
 
-abbrev pub tell_byte : ByteAnswer → Told
-tell_byte (byte.Byte x) = given (x ∷ [])
-tell_byte (byte.Refused r) = refused (number_of r)
+abbrev pub tell_bit : Result Bit Refusal → Told
+tell_bit = tell (λ b. bit_number b ∷ [])
 
-abbrev pub tell_bits : BitsAnswer → Told
-tell_bits (many.Bits v) = given (v ∷ [])
-tell_bits (many.Refused r) = refused (number_of r)
+abbrev pub tell_byte : Result ℕ Refusal → Told
+tell_byte = tell (λ x. x ∷ [])
 
-abbrev pub tell_ahead : Ahead → Told
-tell_ahead ahead.Short = given []
-tell_ahead (ahead.Word w) = given (w ∷ [])
+abbrev pub tell_bits : Result ℕ Refusal → Told
+tell_bits = tell (λ v. v ∷ [])
 
-abbrev pub tell_in_bits : InBits → Told
-tell_in_bits (in_bits.At p) = given (p.0 ∷ [])
-tell_in_bits (in_bits.Refused r) = refused (number_of r)
+abbrev pub tell_in_bits : Result BitPos Refusal → Told
+tell_in_bits = tell (λ p. p.0 ∷ [])
+
+abbrev pub tell_ahead : Option ℕ → Told
+tell_ahead None = given []
+tell_ahead (Some w) = given (w ∷ [])
 
 -- ---- outcomes on paper: what was answered, the position after it and, of a write, the bits after it
 
 abbrev pub told_write : Written → List ℕ → Told × ℕ × List Bool
 told_write r l = (tell_write r.answer, r.writer.at.0, bits l)
 
-abbrev pub told_bit : BitRead → Told × ℕ
+abbrev pub told_bit : Reading Bit → Told × ℕ
 told_bit r = (tell_bit r.answer, r.reader.at.0)
 
-abbrev pub told_byte : ByteRead → Told × ℕ
+abbrev pub told_byte : Reading ℕ → Told × ℕ
 told_byte r = (tell_byte r.answer, r.reader.at.0)
 
-abbrev pub told_bits : BitsRead → Told × ℕ
+abbrev pub told_bits : Reading ℕ → Told × ℕ
 told_bits r = (tell_bits r.answer, r.reader.at.0)
 
 -- ---- fields

@@ -1,5 +1,7 @@
 -- What is promised of bits, bytes and fields, and of the calls that write and read them.
 use Rattle.std.specs.Prelude.{◌≡◌, Bool, false, List, [], ◌∷◌, ◌++◌, ℕ, ◌+◌, ◌*◌, ◌/◌, ◌%◌, ◌^◌, ◌≤◌, ◌<◌, length, take, drop, get_or, replicate}
+use Rattle.std.specs.declared.option.Option.{Option}
+use Rattle.std.specs.declared.result.Result.{Result}
 use Rattle.stream.specs.Bits.{bits_of, value_of, bits, edge, spare, field, replaced}
 use Rattle.stream.specs.Refusals.{number_of}
 use Rattle.stream.specs.Calls.{limit, Told, given, bit_number, tell_ahead, tell_in_bits, told_write, told_bit, told_byte, told_bits, width, field_fault, write_of, read_of}
@@ -7,14 +9,10 @@ use Rattle.stream.specs.declared.Bit.{Bit}
 use Rattle.stream.specs.declared.refusal.Refusal.{Refusal}
 use Rattle.stream.specs.declared.position.BitPos.{BitPos}
 use Rattle.stream.specs.declared.position.ByteCount.{ByteCount}
-use Rattle.stream.specs.declared.position.InBits.{InBits}
 use Rattle.stream.specs.declared.buffered_write.BufferedWriter.{BufferedWriter}
 use Rattle.stream.specs.declared.buffered_write.Written.{Written}
 use Rattle.stream.specs.declared.buffered_read.BufferedReader.{BufferedReader}
-use Rattle.stream.specs.declared.buffered_read.Ahead.{Ahead}
-use Rattle.stream.specs.declared.buffered_read.BitRead.{BitRead}
-use Rattle.stream.specs.declared.buffered_read.ByteRead.{ByteRead}
-use Rattle.stream.specs.declared.buffered_read.BitsRead.{BitsRead}
+use Rattle.stream.specs.declared.buffered_read.Reading.{Reading}
 
 -- `digits`: a number and its digits
 pub record Digits : Type 0 where
@@ -101,11 +99,11 @@ Tells A O tell = (r s : A) → tell r ≡ tell s → r ≡ s
 -- `one_outcome`: no two outcomes meet the statement of a call
 pub record OneOutcome : Type 0 where
   pub write : (r s : Written) (m n : List ℕ) → AreBytes m → AreBytes n → told_write r m ≡ told_write s n → (r ≡ s) × (m ≡ n)
-  pub read_bit : Tells BitRead (Told × ℕ) told_bit
-  pub read_byte : Tells ByteRead (Told × ℕ) told_byte
-  pub read_bits : Tells BitsRead (Told × ℕ) told_bits
-  pub ahead : Tells Ahead Told tell_ahead
-  pub to_bits : Tells InBits Told tell_in_bits
+  pub read_bit : Tells (Reading Bit) (Told × ℕ) told_bit
+  pub read_byte : Tells (Reading ℕ) (Told × ℕ) told_byte
+  pub read_bits : Tells (Reading ℕ) (Told × ℕ) told_bits
+  pub ahead : Tells (Option ℕ) Told tell_ahead
+  pub to_bits : Tells (Result BitPos Refusal) Told tell_in_bits
   pub number : Tells Refusal ℕ number_of
   pub bit : Tells Bit ℕ bit_number
   -- a struct of one number is that number

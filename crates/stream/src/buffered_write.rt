@@ -4,7 +4,7 @@ ghost use Rattle.std.specs.Prelude.{◌≡◌};
 ghost use Rattle.stream.specs.Calls.{bit_number, told_write, write_of};
 
 use super::Bit;
-use super::field::{Fit, fit_of, width_of};
+use super::field::{fit_of, width_of};
 use super::position::BitPos;
 use super::put::put_field;
 use super::refusal::Refusal;
@@ -15,17 +15,10 @@ pub struct BufferedWriter {
     at: BitPos,
 }
 
-// What a write answers.
-#[derive(Clone, Copy)]
-pub enum WriteAnswer {
-    Done,
-    Refused(Refusal),
-}
-
 // The answer, and the writer after it: behind the field, or where it stood if the write was refused.
 #[derive(Clone, Copy)]
 pub struct Written {
-    pub answer: WriteAnswer,
+    pub answer: Result<(), Refusal>,
     pub writer: BufferedWriter,
 }
 
@@ -65,22 +58,18 @@ impl BufferedWriter {
     {
         let p = self.at.0;
         let n = width_of(num);
-        let f = fit_of(buf.len(), p, n, Refusal::NoRoom);
-        match f {
-            Fit::Not(r) => {
-                let answer = WriteAnswer::Refused(r);
-                Written {
-                    answer,
-                    writer: self,
-                }
-            }
-            Fit::Whole => {
+        match fit_of(buf.len(), p, n, Refusal::NoRoom) {
+            Err(r) => Written {
+                answer: Err(r),
+                writer: self,
+            },
+            Ok(()) => {
                 put_field(buf, p, value, n);
                 let end = p + n;
-                let at = BitPos(end);
-                let writer = BufferedWriter { at };
-                let answer = WriteAnswer::Done;
-                Written { answer, writer }
+                Written {
+                    answer: Ok(()),
+                    writer: BufferedWriter { at: BitPos(end) },
+                }
             }
         }
     }

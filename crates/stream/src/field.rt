@@ -9,13 +9,6 @@ ghost use Rattle.stream.specs.Fits.{fault_of};
 use super::LIMIT;
 use super::refusal::Refusal;
 
-// Whether a field fits its buffer.
-#[derive(Clone, Copy)]
-pub(super) enum Fit {
-    Whole,
-    Not(Refusal),
-}
-
 // The bits that a count asks for: a number has no more than 64.
 pub(super) fn width_of(num: u32) -> usize
     ensures { result ≡ width num }
@@ -24,20 +17,20 @@ pub(super) fn width_of(num: u32) -> usize
 }
 
 // Whether n bits at bit p fit in len bytes; short is the refusal where they run past the end.
-pub(super) fn fit_of(len: usize, p: usize, n: usize, short: Refusal) -> Fit
+pub(super) fn fit_of(len: usize, p: usize, n: usize, short: Refusal) -> Result<(), Refusal>
     requires { n ≤ 64 }
     ensures { fault_of result ≡ field_fault (number_of short) len p n }
 {
     if LIMIT < len {
-        return Fit::Not(Refusal::TooLong);
+        return Err(Refusal::TooLong);
     }
     if 8 * len < p {
-        return Fit::Not(Refusal::NoFit);
+        return Err(Refusal::NoFit);
     }
     if 8 * len < p + n {
-        return Fit::Not(short);
+        return Err(short);
     }
-    Fit::Whole
+    Ok(())
 }
 
 // How many of left bits lie in the byte of bit p: all that it has room for, so that 64 bits take at most nine turns.

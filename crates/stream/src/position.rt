@@ -8,19 +8,12 @@ use super::LIMIT;
 use super::refusal::Refusal;
 
 // A place among the bits of a buffer: how many bits lie before it.
-#[derive(Clone, Copy)]
+#[derive(Clone, Copy, Debug, PartialEq, Eq)]
 pub struct BitPos(pub(super) usize);
 
 // A number of bytes.
-#[derive(Clone, Copy)]
+#[derive(Clone, Copy, Debug, PartialEq, Eq)]
 pub struct ByteCount(pub(super) usize);
-
-// A byte count as a position, or why it has none.
-#[derive(Clone, Copy)]
-pub enum InBits {
-    At(BitPos),
-    Refused(Refusal),
-}
 
 impl BitPos {
     // The place behind this many bits.
@@ -36,18 +29,6 @@ impl BitPos {
     {
         let bits = self.0;
         bits
-    }
-
-    // How many bytes hold the bits before this place.
-    pub fn to_bytes(self) -> ByteCount
-        ensures { result.0 ≡ bytes_for self.0 }
-    {
-        let p = self.0;
-        // p + 7 may not fit a number
-        if p % 8 == 0 {
-            return ByteCount(p / 8);
-        }
-        ByteCount(p / 8 + 1)
     }
 }
 
@@ -66,16 +47,34 @@ impl ByteCount {
         let bytes = self.0;
         bytes
     }
+}
 
-    // The place behind this many bytes. More than a lent buffer may have are refused, so the product always fits a number.
-    pub fn to_bits(self) -> InBits
-        ensures { tell_in_bits result ≡ in_bits_of self.0 }
-    {
-        let n = self.0;
+// How many bytes hold the bits before a place.
+impl From<BitPos> for ByteCount {
+    ghost from_gives = { λ place bytes. bytes.0 ≡ bytes_for place.0 };
+
+    fn from(place: BitPos) -> ByteCount {
+        let p = place.0;
+        // p + 7 may not fit a number
+        if p % 8 == 0 {
+            return ByteCount(p / 8);
+        }
+        ByteCount(p / 8 + 1)
+    }
+}
+
+// The place behind so many bytes. More than a lent buffer may have are refused, so the product always fits a number.
+impl TryFrom<ByteCount> for BitPos {
+    type Error = Refusal;
+
+    ghost try_from_gives = { λ bytes place. tell_in_bits place ≡ in_bits_of bytes.0 };
+
+    fn try_from(bytes: ByteCount) -> Result<BitPos, Refusal> {
+        let n = bytes.0;
         if LIMIT < n {
-            return InBits::Refused(Refusal::TooLong);
+            return Err(Refusal::TooLong);
         }
         let end = 8 * n;
-        InBits::At(BitPos(end))
+        Ok(BitPos(end))
     }
 }

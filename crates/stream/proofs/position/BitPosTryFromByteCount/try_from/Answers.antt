@@ -1,7 +1,7 @@
 use mathlib.Core.Path.{sym}
 use native.Mathlib.Omega.{arith}
 use Rattle.stream.proofs.Outcomes.{place_beyond, place_there}
-use Rattle.stream.proofs.position.ByteCount.to_bits.Goals as goal
+use Rattle.stream.proofs.position.BitPosTryFromByteCount.try_from.Goals as goal
 
 pub returns-then-n-gt-LIMIT : goal.returns-then-n-gt-LIMIT
 returns-then-n-gt-LIMIT c = sym (place_beyond _ (omega arith))
