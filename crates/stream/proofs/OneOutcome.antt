@@ -15,7 +15,7 @@ use Rattle.stream.specs.declared.refusal.Refusal.{Refusal}
 use Rattle.stream.specs.declared.position.BitPos.{BitPos}
 use Rattle.stream.specs.declared.buffered_write.Written.{Written}
 use Rattle.stream.proofs.Bytes.{bits_inj}
-use Rattle.stream.proofs.Outcomes.{by_number}
+use Rattle.stream.proofs.Outcomes.{by_number, by_name}
 
 -- ---- answers
 
@@ -90,6 +90,7 @@ one_outcome = record {
   ahead = ahead_told;
   to_bits = place_told;
   number = by_number;
+  name = by_name;
   bit = by_bit;
   position = λ p q e. λ i. record { 0 = e i };
   count = λ m n e. λ i. record { 0 = e i };

@@ -9,13 +9,13 @@ use native.Mathlib.Omega.{arith}
 use borrow.Author.Tests.{ltb-false, lt-ltb, le-ltb}
 use lib.ListN.{length, get_or}
 use Rattle.stream.specs.Bits.{bits_of, value_of, bits, field, replaced}
-use Rattle.stream.specs.Refusals.{number_of, when, or_else, by_fault}
+use Rattle.stream.specs.Refusals.{number_of, name_of, when, or_else, by_fault}
 use Rattle.stream.specs.Calls.{limit, Told, given, refused, tell_bits, width, field_fault, write_of, read_of, peek_of, ahead_of, in_bits_of}
 use Rattle.stream.specs.Fits.{fault_of}
 use Rattle.stream.specs.Promises.{FieldFaults, Tells}
 use Rattle.stream.specs.declared.refusal.Refusal.{Refusal}
 use Rattle.stream.specs.declared.refusal.Refusal.TheVariants.{NoRoom, TimeFalls, FirstDelta, DodRange, TooLong, NoStart, CutShort, BadEnd, BadWindow, ReadTimeFalls, ReadTimePasses, Closed, NoFit}
-use Rattle.std.specs.Prelude.{Ok, ⊤}
+use Rattle.std.specs.Prelude.{cond, Ok, bytes_eq, ⊤}
 use Rattle.std.specs.declared.result.Result.{Result}
 use Rattle.stream.proofs.Taking.{field_lt}
 
@@ -104,6 +104,43 @@ at_number NoFit = refl
 -- a refusal is its number
 pub by_number : Tells Refusal ℕ number_of
 by_number r s e = sym (at_number r) ∙ ap refusal_at e ∙ at_number s
+
+-- the refusal that a name is of
+named : List ℕ → Refusal
+named n =
+    cond (bytes_eq n (name_of NoRoom)) NoRoom
+    (cond (bytes_eq n (name_of TimeFalls)) TimeFalls
+    (cond (bytes_eq n (name_of FirstDelta)) FirstDelta
+    (cond (bytes_eq n (name_of DodRange)) DodRange
+    (cond (bytes_eq n (name_of TooLong)) TooLong
+    (cond (bytes_eq n (name_of NoStart)) NoStart
+    (cond (bytes_eq n (name_of CutShort)) CutShort
+    (cond (bytes_eq n (name_of BadEnd)) BadEnd
+    (cond (bytes_eq n (name_of BadWindow)) BadWindow
+    (cond (bytes_eq n (name_of ReadTimeFalls)) ReadTimeFalls
+    (cond (bytes_eq n (name_of ReadTimePasses)) ReadTimePasses
+    (cond (bytes_eq n (name_of Closed)) Closed
+    NoFit)))))))))))
+
+at_name : (r : Refusal) → named (name_of r) ≡ r
+unfolding named
+at_name NoRoom = refl
+at_name TimeFalls = refl
+at_name FirstDelta = refl
+at_name DodRange = refl
+at_name TooLong = refl
+at_name NoStart = refl
+at_name CutShort = refl
+at_name BadEnd = refl
+at_name BadWindow = refl
+at_name ReadTimeFalls = refl
+at_name ReadTimePasses = refl
+at_name Closed = refl
+at_name NoFit = refl
+
+-- a refusal is its name too
+pub by_name : Tells Refusal (List ℕ) name_of
+by_name r s e = sym (at_name r) ∙ ap named e ∙ at_name s
 
 -- which is not 0
 pub number_pos : (r : Refusal) → 0 < number_of r

@@ -1,7 +1,7 @@
 -- Laws of a field taken out of its bytes: a byte's bits at a time, and out of a word of 64 bits.
-use mathlib.Core.Path.{◌≡◌, sym, ap, ap₂, ◌∙◌}
+use mathlib.Core.Path.{◌≡◌, refl, sym, ap, ap₂, ◌∙◌}
 use mathlib.Core.Bool.{Bool}
-use mathlib.Core.List.{List, ◌++◌, append_assoc}
+use mathlib.Core.List.{List, [], ◌∷◌, ◌++◌, append_assoc}
 use Prim.Native.Nat.{ℕ, suc, ◌+◌, ◌-◌, ◌*◌, ◌/◌, ◌%◌, ◌^◌, ◌≤◌, ◌<◌}
 use native.Mathlib.Nat.{add-zero, mod-eq_of_lt, lt_of_lt_of_le, min-le_left, one-mul, sub-zero}
 use native.Mathlib.Omega.{arith}
@@ -9,9 +9,10 @@ use lib.ListN.{length, take, drop, get_or, length-take, length-drop}
 use lib.Seq.{take_at, drop_at, length-take-le, drop-drop, take-add}
 use lib.Arith.{digits_lt}
 use lib.Pow.{high, low, pow-add, pow_pos, pow-lt, pow_mono, mod-pow-add, shl_exact, shl-shr}
+use Rattle.std.specs.Int.{w64, from_be_bytes}
 use Rattle.stream.specs.Bits.{bits_of, value_of, bits, field}
 use Rattle.stream.proofs.Numbers.{length_bits_of, bits_of_add, value_bits_of, value_lt, value_append}
-use Rattle.stream.proofs.Bytes.{bits_at}
+use Rattle.stream.proofs.Bytes.{bits_at, length_bits}
 
 -- `1 << c`
 pub one_shl : (c w : ℕ) → c < w → (1 * 2 ^ c) % 2 ^ w ≡ 2 ^ c
@@ -117,20 +118,26 @@ byte_value l i x e h k =
     ∙ value_bits_of 8 (get_or l i 0) ∙ mod-eq_of_lt (rw e at k) ∙ sym e)
 
 -- the k bytes from byte i on, and the next one
-module _ (bs : List Bool) (i k v x : ℕ) (ev : v ≡ value_of (field bs (8 * i) (8 * k))) (ex : x ≡ value_of (field bs (8 * (i + k)) 8)) (h : 8 * (i + k) + 8 ≤ length bs) where
-  pub word_more : v * 256 + x ≡ value_of (field bs (8 * i) (8 * k + 8))
-  word_more =
-      let e : 8 * (i + k) ≡ 8 * i + 8 * k = omega arith in
-      rw (ev, ex, e) (sym (field_both bs (8 * i) (8 * k) 8 (omega arith)))
+next_byte : (bs : List Bool) (i k v x : ℕ) → v ≡ value_of (field bs (8 * i) (8 * k)) → x ≡ value_of (field bs (8 * (i + k)) 8) → 8 * (i + k) + 8 ≤ length bs
+    → v * 256 + x ≡ value_of (field bs (8 * i) (8 * k + 8))
+next_byte bs i k v x ev ex h =
+    let e : 8 * (i + k) ≡ 8 * i + 8 * k = omega arith in
+    rw (ev, ex, e) (sym (field_both bs (8 * i) (8 * k) 8 (omega arith)))
 
-  pub word_fits : k < 8 → v * 256 + x < 2 ^ 64
-  word_fits l =
-      rw word_more (lt_of_lt_of_le (field_lt bs (8 * i) (8 * k + 8)) (pow_mono {i = 8 * k + 8} {j = 64} (omega arith)))
+-- eight bytes as a number, highest first, one byte at a time
+horner : (a b c d e f g h : ℕ)
+    → from_be_bytes w64 (a ∷ b ∷ c ∷ d ∷ e ∷ f ∷ g ∷ h ∷ []) ≡ ((((((a * 256 + b) * 256 + c) * 256 + d) * 256 + e) * 256 + f) * 256 + g) * 256 + h
+horner a b c d e f g h = omega arith
 
-pub word_room : (bs : List Bool) (i k v : ℕ) → v ≡ value_of (field bs (8 * i) (8 * k)) → k < 8 → v * 256 < 2 ^ 64
-word_room bs i k v e l =
-    let h : v < 2 ^ 56 = has_room bs (8 * i) (8 * k) 8 v (omega arith) e in
-    omega arith
+-- the eight bytes from byte i on
+pub eight_bytes : (l : List ℕ) (i : ℕ) → ((j : ℕ) → get_or l j 0 < 256) → i + 8 ≤ length l
+    → from_be_bytes w64
+    (get_or l i 0 ∷ get_or l (i + 1) 0 ∷ get_or l (i + 2) 0 ∷ get_or l (i + 3) 0 ∷ get_or l (i + 4) 0 ∷ get_or l (i + 5) 0 ∷ get_or l (i + 6) 0 ∷ get_or l (i + 7) 0 ∷ [])
+    ≡ value_of (field (bits l) (8 * i) 64)
+eight_bytes l i small h =
+    let more : (k v : ℕ) → k < 8 → v ≡ value_of (field (bits l) (8 * i) (8 * k)) → v * 256 + get_or l (i + k) 0 ≡ value_of (field (bits l) (8 * i) (8 * k + 8)) =
+    λ k v some e. next_byte (bits l) i k v (get_or l (i + k) 0) e (byte_value l (i + k) _ refl (omega (arith, some)) (small (i + k))) (rw length_bits (omega (arith, some))) in
+    horner _ _ _ _ _ _ _ _ ∙ more 7 _ (omega arith) (more 6 _ (omega arith) (more 5 _ (omega arith) (more 4 _ (omega arith) (more 3 _ (omega arith) (more 2 _ (omega arith) (more 1 _ (omega arith) (byte_value l i _ refl (omega arith) (small i))))))))
 
 -- `w << k` in r + k digits
 pub shl_mod : (w r k : ℕ) → w * 2 ^ k % 2 ^ (r + k) ≡ w % 2 ^ r * 2 ^ k

@@ -3,7 +3,7 @@ use Rattle.std.specs.Prelude.{◌≡◌, Bool, false, List, [], ◌∷◌, ◌++
 use Rattle.std.specs.declared.option.Option.{Option}
 use Rattle.std.specs.declared.result.Result.{Result}
 use Rattle.stream.specs.Bits.{bits_of, value_of, bits, edge, spare, field, replaced}
-use Rattle.stream.specs.Refusals.{number_of}
+use Rattle.stream.specs.Refusals.{number_of, name_of}
 use Rattle.stream.specs.Calls.{limit, Told, given, bit_number, tell_ahead, tell_in_bits, told_write, told_bit, told_byte, told_bits, width, field_fault, write_of, read_of}
 use Rattle.stream.specs.declared.Bit.{Bit}
 use Rattle.stream.specs.declared.refusal.Refusal.{Refusal}
@@ -105,6 +105,7 @@ pub record OneOutcome : Type 0 where
   pub ahead : Tells (Option ℕ) Told tell_ahead
   pub to_bits : Tells (Result BitPos Refusal) Told tell_in_bits
   pub number : Tells Refusal ℕ number_of
+  pub name : Tells Refusal (List ℕ) name_of
   pub bit : Tells Bit ℕ bit_number
   -- a struct of one number is that number
   pub position : Tells BitPos ℕ (λ p. p.0)

@@ -21,29 +21,21 @@ fn byte_at(buf: &[u8], i: usize) -> u64
     wide(buf[i])
 }
 
-// v, the value of the k bytes from byte i on, with the next byte behind it.
-fn next_byte(buf: &[u8], i: usize, k: usize, v: u64) -> u64
-    requires k_bound { k < 8 }
-    requires k_in_bounds { i + k < length buf.now }
-    requires v_value { v ≡ value_of (field (bits buf.now) (8 * i) (8 * k)) }
-    ensures { result ≡ value_of (field (bits buf.now) (8 * i) (8 * k + 8)) }
-{
-    v * 256 + byte_at(buf, i + k)
-}
-
-// The eight bytes from byte i on. In this form they are compiled to one load and a byte swap.
+// The eight bytes from byte i on.
 fn word(buf: &[u8], i: usize) -> u64
     requires { i + 8 ≤ length buf.now }
     ensures { result ≡ value_of (field (bits buf.now) (8 * i) 64) }
 {
-    let a = next_byte(buf, i, 0, 0);
-    let b = next_byte(buf, i, 1, a);
-    let c = next_byte(buf, i, 2, b);
-    let d = next_byte(buf, i, 3, c);
-    let e = next_byte(buf, i, 4, d);
-    let f = next_byte(buf, i, 5, e);
-    let g = next_byte(buf, i, 6, f);
-    next_byte(buf, i, 7, g)
+    u64::from_be_bytes([
+        buf[i],
+        buf[i + 1],
+        buf[i + 2],
+        buf[i + 3],
+        buf[i + 4],
+        buf[i + 5],
+        buf[i + 6],
+        buf[i + 7],
+    ])
 }
 
 // The 64 bits from bit at on, which lie in nine bytes.

@@ -1,7 +1,10 @@
 // Why a call is refused: document 01's table.
 
-ghost use Rattle.std.specs.Prelude.{◌≡◌};
-ghost use Rattle.stream.specs.Refusals.{number_of};
+ghost use Rattle.std.specs.Prelude.{◌≡◌, Some};
+ghost use Rattle.stream.specs.Refusals.{number_of, name_of};
+
+use std::error::Error;
+use std::fmt;
 
 // The names of the table, in its order.
 #[derive(Clone, Copy, Debug, PartialEq, Eq)]
@@ -43,3 +46,28 @@ impl Refusal {
         }
     }
 }
+
+// The name that the table gives it.
+impl fmt::Display for Refusal {
+    ghost output = { λ r. Some (name_of r) };
+
+    fn fmt<W: fmt::Write>(&self, f: &mut fmt::Formatter<W>) -> fmt::Result {
+        f.write_str(match self {
+            Refusal::NoRoom => "no room",
+            Refusal::TimeFalls => "time falls",
+            Refusal::FirstDelta => "first delta",
+            Refusal::DodRange => "dod range",
+            Refusal::TooLong => "too long",
+            Refusal::NoStart => "no start",
+            Refusal::CutShort => "cut short",
+            Refusal::BadEnd => "bad end",
+            Refusal::BadWindow => "bad window",
+            Refusal::ReadTimeFalls => "read time falls",
+            Refusal::ReadTimePasses => "read time passes",
+            Refusal::Closed => "closed",
+            Refusal::NoFit => "no fit",
+        })
+    }
+}
+
+impl Error for Refusal {}

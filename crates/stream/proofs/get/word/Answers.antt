@@ -1,7 +1,6 @@
-use borrow.Author.Rules.{rules}
-use native.Mathlib.Omega.{arith}
-use Rattle.stream.proofs.Taking.{none_read}
+use mathlib.Core.Path.{◌∙◌}
+use Rattle.stream.proofs.Taking.{eight_bytes}
 use Rattle.stream.proofs.get.word.Goals as goal
 
-pub next_byte-a-requires : goal.next_byte-a-requires
-next_byte-a-requires c = record { k_bound = search rules; k_in_bounds = search rules; v_value = none_read _ _ _ (omega arith) }
+pub returns : goal.returns
+returns c = c.from_be_bytes.ensures ∙ eight_bytes _ _ (λ j. (c.type_inv.buf j).fits) c.requires
