@@ -9,7 +9,7 @@ use Rattle.stream.specs.declared.refusal.Refusal.{Refusal}
 use Rattle.stream.proofs.Bytes.{length_bits}
 use Rattle.stream.proofs.Taking.{field_lt}
 use Rattle.stream.proofs.Outcomes.{read_is, read_none, told_as}
-use Rattle.layout.specs.Writing.{State}
+use Rattle.layout.specs.declared.State.{State}
 use Rattle.layout.specs.Reading.{done, ask, run, Label, point, ending, wrong, Reader}
 use Rattle.layout.specs.Answers.{point_at, end_at, wrong_at, reached}
 use Rattle.layout.proofs.Runs.{run_there, run_cut}

@@ -3,8 +3,10 @@ use Rattle.std.proofs.Common.{◌≡◌, ℕ, ◌+◌, ◌-◌, ◌^◌, ◌<◌
 use Rattle.stream.specs.Bits.{value_of, field}
 use Rattle.layout.specs.declared.Row.{Row}
 use Rattle.layout.specs.Rows.{row7, longer_rows}
-use Rattle.layout.specs.Windows.{Window, window, no_digit}
-use Rattle.layout.specs.Writing.{State, going}
+use Rattle.layout.specs.declared.Window.{Window}
+use Rattle.layout.specs.Windows.{window, no_digit}
+use Rattle.layout.specs.declared.State.{State}
+use Rattle.layout.specs.Writing.{going}
 use Rattle.layout.specs.Reading.{done, ask, Outcome, run, read_start, Label, Found, point, ending, wrong, Reader, read_row, read_dod, new_time, marker_rest, read_marker, read_digits, read_opened, read_window, read_xor, read_value, after_dod, read_later, first_time, read_first, read_next}
 use Rattle.layout.specs.Answers.{Reached, point_at, end_at, wrong_at, reached, step, after_start, first_step}
 use Rattle.layout.proofs.Tests.{by_bool}

@@ -1,7 +1,7 @@
 -- The readers of a step, by what was read.
 use Rattle.std.proofs.Common.{◌≡◌, ℕ, ◌+◌, ◌^◌, ◌<◌, ◌≤◌, Bool, cond, eqb, List, length, ℤ, sym, ap, ◌∙◌, eq-eqb, ne_eqb}
 use Rattle.stream.specs.declared.buffered_read.BufferedReader.{BufferedReader}
-use Rattle.layout.specs.Windows.{Window}
+use Rattle.layout.specs.declared.Window.{Window}
 use Rattle.layout.specs.Reading.{done, run, read_start, item, first_marker, ending, wrong, marker_rest, read_marker, Reader, read_first, read_next}
 use Rattle.layout.specs.Answers.{Reached, end_at, wrong_at, step, after_start, first_step}
 use Rattle.layout.proofs.Runs.{run_there, run_cut}

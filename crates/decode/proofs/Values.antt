@@ -1,7 +1,8 @@
 -- The readers of a value, by what was read.
 use Rattle.std.proofs.Common.{◌≡◌, ℕ, ◌+◌, ◌-◌, ◌*◌, ◌%◌, ◌^◌, ◌<◌, ◌≤◌, Bool, List, ◌∙◌, arith, shl_exact, le-ltb, lt-ltb}
 use lib.Bits.{bit_xor}
-use Rattle.layout.specs.Windows.{Window, window}
+use Rattle.layout.specs.declared.Window.{Window}
+use Rattle.layout.specs.Windows.{window}
 use Rattle.layout.specs.Reading.{ask, item, window_zeros, value_digits, Reader, read_digits, read_opened, read_window}
 use Rattle.layout.specs.Answers.{wrong_at}
 use Rattle.decode.specs.declared.field.Peeked.{Peeked}

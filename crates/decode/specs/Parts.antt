@@ -3,8 +3,10 @@ use Rattle.std.specs.Prelude.{◌≡◌, ℕ, ◌+◌, ◌-◌, ◌*◌, ◌^◌
 use Rattle.stream.specs.Bits.{value_of, field}
 use Rattle.stream.specs.Refusals.{number_of}
 use Rattle.layout.specs.Rows.{signed}
-use Rattle.layout.specs.Windows.{Window, window}
-use Rattle.layout.specs.Writing.{State, state}
+use Rattle.layout.specs.declared.Window.{Window}
+use Rattle.layout.specs.Windows.{window}
+use Rattle.layout.specs.declared.State.{State}
+use Rattle.layout.specs.Writing.{state}
 use Rattle.layout.specs.Reading.{run, Reader, read_digits}
 use Rattle.layout.specs.Answers.{Reached, point_at, end_at, wrong_at, reached}
 use Rattle.decode.specs.declared.field.Peeked.{Peeked}

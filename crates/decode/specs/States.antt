@@ -2,8 +2,10 @@
 use Rattle.std.specs.Prelude.{ℕ, Bool, []}
 use Rattle.stream.specs.Refusals.{number_of}
 use Rattle.stream.specs.Calls.{Told, given, refused}
-use Rattle.layout.specs.Windows.{Window, window}
-use Rattle.layout.specs.Writing.{State, state}
+use Rattle.layout.specs.declared.Window.{Window}
+use Rattle.layout.specs.Windows.{window}
+use Rattle.layout.specs.declared.State.{State}
+use Rattle.layout.specs.Writing.{state}
 use Rattle.layout.specs.Answers.{Answer, a_point, an_end, refusal}
 use Rattle.decode.specs.declared.std_decoder.Step.{Step}
 use Rattle.decode.specs.declared.std_decoder.Step.TheVariants as step

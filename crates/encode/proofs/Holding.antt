@@ -10,7 +10,8 @@ use Rattle.stream.specs.Bits.{bits_of, value_of}
 use Rattle.stream.specs.Calls.{given, refused}
 use Rattle.stream.proofs.Numbers.{length_bits_of, bits_of_value}
 use Rattle.stream.proofs.Outcomes.{either, by_none, by_some}
-use Rattle.layout.specs.Windows.{Window, digits, reuses, tight, reuse_bits, open_bits, xor_bits, window_after}
+use Rattle.layout.specs.declared.Window.{Window}
+use Rattle.layout.specs.Windows.{digits, reuses, tight, reuse_bits, open_bits, xor_bits, window_after}
 use Rattle.layout.specs.Writing.{Point, Progress, begun, going, dod_of, time_fault, dod_bits, first_bits, later_bits, point_bits, state_after}
 use Rattle.layout.proofs.Tests.{by_bool}
 use Rattle.encode.specs.Codes.{tell_point, numbers, xor_digits, digits_in, code_of}

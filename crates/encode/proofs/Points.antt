@@ -19,8 +19,10 @@ use Rattle.stream.specs.Calls.{Told, given, refused}
 use Rattle.stream.proofs.Numbers.{length_bits_of, value_bits_of, bits_of_join}
 use Rattle.stream.proofs.Outcomes.{by_none, by_some, number_pos}
 use Rattle.layout.specs.Rows.{within}
-use Rattle.layout.specs.Windows.{Window, xor_bits, window_after}
-use Rattle.layout.specs.Writing.{Point, State, state, Progress, dod_of, in_range, time_fault, dod_bits, first_bits, later_bits, point_bits, first_state, later_state, state_after}
+use Rattle.layout.specs.declared.Window.{Window}
+use Rattle.layout.specs.Windows.{xor_bits, window_after}
+use Rattle.layout.specs.declared.State.{State}
+use Rattle.layout.specs.Writing.{Point, state, Progress, dod_of, in_range, time_fault, dod_bits, first_bits, later_bits, point_bits, first_state, later_state, state_after}
 use Rattle.layout.proofs.Tests.{by_bool, both, unmet}
 use Rattle.encode.specs.declared.code.PointCode.{PointCode}
 use Rattle.encode.specs.declared.code.CodeAnswer.{CodeAnswer}

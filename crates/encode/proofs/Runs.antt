@@ -18,7 +18,8 @@ use Rattle.stream.proofs.Outcomes.{none_holds, not_when}
 use Rattle.stream.proofs.Bytes.{length_bits}
 use Rattle.stream.proofs.Writes.{writes_leave}
 use Rattle.layout.specs.Rows.{within}
-use Rattle.layout.specs.Windows.{Window, xor_bits, window_after}
+use Rattle.layout.specs.declared.Window.{Window}
+use Rattle.layout.specs.Windows.{xor_bits, window_after}
 use Rattle.layout.specs.Writing.{Point, point_of, state, time_fault, dod_bits, later_bits, point_bits, later_state, state_after}
 use Rattle.encode.specs.declared.std_encoder.EncodeAnswer.TheVariants as encode
 use Rattle.encode.specs.declared.std_encoder.Encoded.{Encoded}

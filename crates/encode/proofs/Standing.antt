@@ -11,7 +11,8 @@ use lib.ListN.{length}
 use Rattle.stream.specs.Calls.{limit, Told}
 use Rattle.stream.specs.declared.refusal.Refusal.{Refusal}
 use Rattle.stream.proofs.Outcomes.{either, none_holds, not_when, by_none, by_some}
-use Rattle.layout.specs.Windows.{Window, encoder_window, bad_window, reuses, tight, window_after}
+use Rattle.layout.specs.declared.Window.{Window}
+use Rattle.layout.specs.Windows.{encoder_window, bad_window, reuses, tight, window_after}
 use Rattle.layout.specs.Writing.{Point, point_bits, first_state, later_state, state_after}
 use Rattle.layout.proofs.Tests.{by_bool}
 use Rattle.layout.proofs.Xors.{zeros_lt}

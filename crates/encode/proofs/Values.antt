@@ -9,7 +9,8 @@ use lib.Dec.{leb}
 use lib.Count.{count_leading_zeros, count_trailing_zeros}
 use borrow.Author.Tests.{le-leb}
 use Rattle.stream.specs.Bits.{odd, bits_of}
-use Rattle.layout.specs.Windows.{Window, window, digits, reuses, tight, reuse_bits, open_bits, xor_bits, window_after}
+use Rattle.layout.specs.declared.Window.{Window}
+use Rattle.layout.specs.Windows.{window, digits, reuses, tight, reuse_bits, open_bits, xor_bits, window_after}
 use Rattle.layout.proofs.Xors.{zeros_lt, reused, digits_fit}
 use Rattle.encode.specs.declared.code.PointCode.{PointCode}
 use Rattle.encode.specs.Codes.{xor_digits}

@@ -4,7 +4,8 @@ use Rattle.std.specs.Int.Bits.{bit_xor}
 use Rattle.stream.specs.Bits.{value_of}
 use Rattle.stream.specs.Refusals.{number_of, by_fault}
 use Rattle.stream.specs.Calls.{Told, given, refused}
-use Rattle.layout.specs.Windows.{Window, digits, window_after}
+use Rattle.layout.specs.declared.Window.{Window}
+use Rattle.layout.specs.Windows.{digits, window_after}
 use Rattle.layout.specs.Writing.{Point, Progress, begun, going, time_fault, point_bits, state_after}
 use Rattle.encode.specs.declared.code.PointCode.{PointCode}
 use Rattle.encode.specs.declared.code.CodeAnswer.{CodeAnswer}

@@ -5,7 +5,8 @@ use Rattle.stream.specs.Bits.{bits_of, replaced}
 use Rattle.stream.specs.Refusals.{number_of}
 use Rattle.stream.specs.Calls.{Told, given, refused}
 use Rattle.stream.specs.declared.refusal.Refusal.{Refusal}
-use Rattle.layout.specs.Windows.{Window, window}
+use Rattle.layout.specs.declared.Window.{Window}
+use Rattle.layout.specs.Windows.{window}
 use Rattle.layout.specs.Writing.{Point, state, Progress, in_range, time_fault, point_bits, state_after}
 use Rattle.encode.specs.declared.code.Code.{Code}
 use Rattle.encode.specs.declared.code.PointCode.{PointCode}

@@ -4,7 +4,8 @@ use Rattle.stream.specs.Bits.{bits_of, bits}
 use Rattle.stream.specs.Calls.{limit, Told, refused}
 use Rattle.stream.specs.Promises.{AreBytes, Tells}
 use Rattle.layout.specs.Windows.{bad_window}
-use Rattle.layout.specs.Writing.{Point, State, Progress, dod_of, in_range, time_fault, point_bits}
+use Rattle.layout.specs.declared.State.{State}
+use Rattle.layout.specs.Writing.{Point, Progress, dod_of, in_range, time_fault, point_bits}
 use Rattle.encode.specs.declared.std_encoder.StdEncoder.{StdEncoder}
 use Rattle.encode.specs.declared.std_encoder.Encoded.{Encoded}
 use Rattle.encode.specs.declared.std_encoder.Closing.{Closing}

@@ -1,7 +1,9 @@
 -- The encoder's state in plain numbers, and how it stands to the layout.
 use Rattle.std.specs.Prelude.{Bool, cond, ℕ}
-use Rattle.layout.specs.Windows.{Window, window}
-use Rattle.layout.specs.Writing.{Point, State, state, Progress, begun, going}
+use Rattle.layout.specs.declared.Window.{Window}
+use Rattle.layout.specs.Windows.{window}
+use Rattle.layout.specs.declared.State.{State}
+use Rattle.layout.specs.Writing.{Point, state, Progress, begun, going}
 use Rattle.point.specs.declared.Stored.{Stored}
 use Rattle.encode.specs.declared.last.Last.{Last}
 use Rattle.encode.specs.declared.std_encoder.StdEncoder.{StdEncoder}

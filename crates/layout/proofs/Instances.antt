@@ -11,7 +11,8 @@ use lib.ListN.{take}
 use Rattle.stream.specs.Bits.{odd, digit, bits_of, value_of, field}
 use Rattle.layout.specs.declared.Row.{Row}
 use Rattle.layout.specs.Rows.{minus, within, rows, fits, in_field, raw, signed}
-use Rattle.layout.specs.Windows.{Window, window, no_digit, unopened, bad_window, digits, reuses, tight, reuse_bits, open_bits, xor_bits, window_after}
+use Rattle.layout.specs.declared.Window.{Window}
+use Rattle.layout.specs.Windows.{window, no_digit, unopened, bad_window, digits, reuses, tight, reuse_bits, open_bits, xor_bits, window_after}
 use Rattle.layout.specs.Writing.{Point, point_of, in_row, row_bits, dod_bits, start_bits, marker, first_bits, later_bits, point_bits, first_state, later_state, state_after, rest_bits, opened, stream_bits}
 use Rattle.layout.specs.Reading.{run, read_start, read_row, read_dod, new_time, read_marker, read_digits, read_opened, read_window, read_xor, read_value, after_dod, read_later, first_time, read_first, read_next}
 use Rattle.layout.specs.Answers.{position, reached, answer_of, step, after_start, first_step, next_step, outcomes_after, outcomes, answers, lack, torn_by, torn}

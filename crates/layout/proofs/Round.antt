@@ -12,8 +12,10 @@ use lib.Seq.{drop-drop, drop_at}
 use borrow.Author.Tests.{ltb-false}
 use Rattle.stream.specs.Bits.{odd, digit, bits_of}
 use Rattle.stream.proofs.Numbers.{length_bits_of}
-use Rattle.layout.specs.Windows.{Window, decoder_window, xor_bits}
-use Rattle.layout.specs.Writing.{Point, State, state, Progress, begun, going, dod_of, in_range, time_fault, dod_bits, start_bits, marker, first_bits, later_bits, point_bits, first_state, later_state, state_after, rest_bits, opened, stream_bits, Fitting, Accepted}
+use Rattle.layout.specs.declared.Window.{Window}
+use Rattle.layout.specs.Windows.{decoder_window, xor_bits}
+use Rattle.layout.specs.declared.State.{State}
+use Rattle.layout.specs.Writing.{Point, state, Progress, begun, going, dod_of, in_range, time_fault, dod_bits, start_bits, marker, first_bits, later_bits, point_bits, first_state, later_state, state_after, rest_bits, opened, stream_bits, Fitting, Accepted}
 use Rattle.layout.specs.Reading.{done, ask, Outcome, got, run, read_start, item, time_field, value_digits, first_marker, point, ending, wrong, Reader, new_time, marker_rest, read_marker, read_value, after_dod, read_later, first_time, read_first, read_next}
 use Rattle.layout.specs.Answers.{a_point, point_at, end_at, reached, Answer, an_end, answer_of, step, after_start, first_step, next_step, outcomes_after, outcomes, answers}
 use Rattle.layout.specs.Promises.{back, PointsComeBack}

@@ -12,8 +12,10 @@ use Rattle.stream.specs.Bits.{odd, bits_of, bytes_for}
 use Rattle.stream.proofs.Numbers.{length_bits_of}
 use Rattle.layout.specs.declared.Row.{Row}
 use Rattle.layout.specs.Rows.{within, row7, longer_rows, rows, fits, raw}
-use Rattle.layout.specs.Windows.{Window, reuses, tight, reuse_bits, open_bits, xor_bits, window_after}
-use Rattle.layout.specs.Writing.{Point, State, going, dod_of, in_range, time_fault, in_row, row_bits, dod_bits, start_bits, marker, first_bits, later_bits, point_bits, first_state, later_state, state_after, rest_bits, opened, stream_bits, Accepted}
+use Rattle.layout.specs.declared.Window.{Window}
+use Rattle.layout.specs.Windows.{reuses, tight, reuse_bits, open_bits, xor_bits, window_after}
+use Rattle.layout.specs.declared.State.{State}
+use Rattle.layout.specs.Writing.{Point, going, dod_of, in_range, time_fault, in_row, row_bits, dod_bits, start_bits, marker, first_bits, later_bits, point_bits, first_state, later_state, state_after, rest_bits, opened, stream_bits, Accepted}
 use Rattle.layout.specs.Promises.{Every, Sizes}
 use Rattle.layout.proofs.Tests.{by_bool}
 use Rattle.layout.proofs.Times.{last_fits}

@@ -1,8 +1,13 @@
 -- Tests, by cases.
-use mathlib.Core.Path.{◌≡◌, refl, sym, ◌∙◌}
+use mathlib.Core.Path.{◌≡◌, refl, sym, ap₂, ◌∙◌}
 use mathlib.Core.Bool.{Bool, true, false, cond, ◌&&◌, ◌||◌}
 use native.Mathlib.Omega.{arith}
 use Prim.Native.Nat.{ℕ, suc}
+use lib.IntN.{ℤ}
+use lib.Signed.{le_z}
+use mir.Syntax.{w64}
+use mir.Val.{SFits, to_z, of_z}
+use mir.Facts.{to_z-of_z}
 
 pub by_bool {ℓ} : (P : Bool → Type ℓ) (b : Bool) → (b ≡ true → P true) → (b ≡ false → P false) → P b
 by_bool P true f g = f refl
@@ -41,3 +46,7 @@ unmet false k y e = (refl, e)
 pub met : (b : Bool) (k : ℕ) → cond b 0 (suc k) ≡ 0 → b ≡ true
 met true k e = refl
 met false k e = absurd (omega arith)
+
+-- two signed numbers, compared by their bits
+pub le_is : (a b : ℤ) → SFits w64 a → SFits w64 b → le_z (to_z w64 (of_z w64 a)) (to_z w64 (of_z w64 b)) ≡ le_z a b
+le_is a b f g = ap₂ le_z (to_z-of_z f) (to_z-of_z g)

@@ -11,7 +11,8 @@ use lib.ListN.{length, length-append}
 use borrow.Author.Tests.{le-ltb}
 use Rattle.stream.specs.Bits.{digit, bits_of}
 use Rattle.stream.proofs.Numbers.{length_bits_of}
-use Rattle.layout.specs.Windows.{Window, digits, reuses, tight, digit_bits, reuse_bits, open_bits, xor_bits, window_after}
+use Rattle.layout.specs.declared.Window.{Window}
+use Rattle.layout.specs.Windows.{digits, reuses, tight, digit_bits, reuse_bits, open_bits, xor_bits, window_after}
 use Rattle.layout.specs.Reading.{ask, item, window_zeros, value_digits, Reader, read_digits, read_opened, read_window, read_xor, read_value}
 use Rattle.layout.proofs.Tests.{by_bool}
 use Rattle.layout.proofs.Xors.{xor_twice, xor_eq, trailing_back, zeros_lt, reused, digits_fit}

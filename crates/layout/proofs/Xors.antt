@@ -11,7 +11,8 @@ use lib.Pow.{pow_pos, pow_mono, shr_lt, split, mod-pow-add}
 use lib.Bits.{bit_xor, differ, xor_step, xor_self, xor_shr, xor_mod}
 use lib.Count.{count_leading_zeros, count_trailing_zeros, under, leading_top, leading_length}
 use borrow.Author.Tests.{leb-true}
-use Rattle.layout.specs.Windows.{Window, digits, reuses}
+use Rattle.layout.specs.declared.Window.{Window}
+use Rattle.layout.specs.Windows.{digits, reuses}
 use Rattle.layout.specs.Promises.{WindowLaws}
 use Rattle.layout.proofs.Tests.{both}
 

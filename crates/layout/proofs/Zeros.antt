@@ -6,7 +6,8 @@ use native.Mathlib.Omega.{arith}
 use lib.Dec.{eqb, ltb}
 use lib.Pow.{pow_pos}
 use borrow.Author.Tests.{lt-ltb, le-ltb, eq-eqb, ne_eqb, eqb-true}
-use Rattle.layout.specs.Windows.{Window, window, no_digit, unopened, bad_window}
+use Rattle.layout.specs.declared.Window.{Window}
+use Rattle.layout.specs.Windows.{window, no_digit, unopened, bad_window}
 use Rattle.layout.specs.Promises.{BadWindow}
 use Rattle.layout.proofs.Tests.{and_false, and_never, and_still}
 

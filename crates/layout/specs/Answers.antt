@@ -1,8 +1,10 @@
 -- What the decoder's steps come to, one after the other: document 01, "A decoder step", and what is left of it on the first j bits.
 -- The parameter c gives the width of a value, 2 ^ c bits: 6 for 64 bits.
 use Rattle.std.specs.Prelude.{ℕ, zero, suc, ◌+◌, Bool, cond, List, [], ◌∷◌, map, leb, ltb, length, replicate}
-use Rattle.layout.specs.Windows.{Window, decoder_window}
-use Rattle.layout.specs.Writing.{State, Progress, begun, going}
+use Rattle.layout.specs.declared.Window.{Window}
+use Rattle.layout.specs.Windows.{decoder_window}
+use Rattle.layout.specs.declared.State.{State}
+use Rattle.layout.specs.Writing.{Progress, begun, going}
 use Rattle.layout.specs.Reading.{Outcome, got, cut, run, read_start, Label, Found, point, ending, wrong, read_next}
 
 -- ---- one step

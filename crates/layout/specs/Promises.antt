@@ -6,7 +6,8 @@ use Rattle.std.specs.Int.Count.{count_leading_zeros, count_trailing_zeros}
 use Rattle.stream.specs.Bits.{bits, bytes_for, padded}
 use Rattle.layout.specs.declared.Row.{Row}
 use Rattle.layout.specs.Rows.{rows, fits, in_field, raw, signed}
-use Rattle.layout.specs.Windows.{Window, digits, reuses, bad_window}
+use Rattle.layout.specs.declared.Window.{Window}
+use Rattle.layout.specs.Windows.{digits, reuses, bad_window}
 use Rattle.layout.specs.Writing.{Point, point_of, Progress, going, point_bits, state_after, opened, stream_bits, Accepted}
 use Rattle.layout.specs.Answers.{Reached, position, Answer, a_point, an_end, refusal, answer_of, outcomes, answers, lack, torn_by, torn}
 

@@ -5,8 +5,10 @@ use Rattle.std.specs.Int.Bits.{bit_xor}
 use Rattle.stream.specs.Bits.{value_of, field}
 use Rattle.layout.specs.declared.Row.{Row}
 use Rattle.layout.specs.Rows.{row7, longer_rows, signed}
-use Rattle.layout.specs.Windows.{Window, window, digits}
-use Rattle.layout.specs.Writing.{State, state, Progress, begun, going}
+use Rattle.layout.specs.declared.Window.{Window}
+use Rattle.layout.specs.Windows.{window, digits}
+use Rattle.layout.specs.declared.State.{State}
+use Rattle.layout.specs.Writing.{state, Progress, begun, going}
 
 -- ---- readers
 

@@ -3,12 +3,9 @@
 use Rattle.std.specs.Prelude.{ℕ, zero, suc, ◌+◌, ◌-◌, ◌/◌, ◌^◌, Bool, true, false, cond, not, ◌&&◌, List, [], ◌∷◌, ◌++◌, eqb, leb, ltb}
 use Rattle.std.specs.Int.Count.{count_leading_zeros, count_trailing_zeros}
 use Rattle.stream.specs.Bits.{bits_of}
+use Rattle.layout.specs.declared.Window.{Window}
 
--- how many zeros stand above the digits, and how many below
-pub record Window : Type 0 where
-  pub lead : ℕ
-  pub trail : ℕ
-
+-- a window: how many zeros stand above the digits, and how many below
 abbrev pub window : ℕ → ℕ → Window
 window l t = record { lead = l; trail = t }
 

@@ -5,8 +5,10 @@ use Rattle.std.proofs.Math.IntN.{sub_ℕ}
 use Rattle.std.specs.Int.Bits.{bit_xor}
 use Rattle.stream.specs.Bits.{bits_of}
 use Rattle.layout.specs.declared.Row.{Row}
+use Rattle.layout.specs.declared.Window.{Window}
 use Rattle.layout.specs.Rows.{minus, within, rows, fits, raw}
-use Rattle.layout.specs.Windows.{Window, encoder_window, xor_bits, window_after}
+use Rattle.layout.specs.declared.State.{State}
+use Rattle.layout.specs.Windows.{encoder_window, xor_bits, window_after}
 
 -- ---- what both ends keep
 
@@ -19,12 +21,6 @@ abbrev pub point_of : ℕ → ℕ → Point
 point_of t v = record { time = t; value = v }
 
 -- after a point: its time, the delta that led to it, its value, and the window
-pub record State : Type 0 where
-  pub time : ℕ
-  pub delta : ℕ
-  pub value : ℕ
-  pub window : Window
-
 abbrev pub state : ℕ → ℕ → ℕ → Window → State
 state t d v w = record { time = t; delta = d; value = v; window = w }
 

@@ -1,13 +1,13 @@
-// What both ends share: the rows in which a time's delta of delta is written, and which windows a state can't have.
+// What both ends share: the rows in which a time's delta of delta is written, a window, and what is kept between two points.
 
 #![tactic(auto)]
 
 ghost use Rattle.std.specs.Prelude.{◌≡◌};
 ghost use Rattle.layout.specs.Rows as format;
-ghost use Rattle.layout.specs.Windows.{window, no_digit, bad_window};
+ghost use Rattle.layout.specs.Windows.{no_digit, bad_window};
 
 // A row: its control bits, the bits of its field, and the dods that it takes.
-#[derive(Clone, Copy)]
+#[derive(Clone, Copy, Debug, PartialEq, Eq)]
 pub struct Row {
     pub prefix: u64,
     pub prefix_len: u32,
@@ -57,19 +57,46 @@ pub fn row_at(i: usize) -> Row
     ROWS[3]
 }
 
-// Whether so many zeros above the digits and so many below them leave none of 64.
-pub fn no_digit(lead: u32, trail: u32) -> bool
-    ensures { result ≡ no_digit 6 (window lead trail) }
-{
-    63 < (lead as u64) + (trail as u64)
+impl Row {
+    // Whether it takes a dod.
+    pub fn takes(self, d: i64) -> bool
+        ensures { result ≡ format.fits self d }
+    {
+        self.lowest <= d && d <= self.highest
+    }
 }
 
-// Whether they are zeros that no encoder has: such ones, but for the 64 and 64 with which it begins.
-pub fn bad_window(lead: u32, trail: u32) -> bool
-    ensures { result ≡ bad_window 6 (window lead trail) }
-{
-    if lead == 64 {
-        return trail != 64;
+// How many zeros stand above the digits of a value's xor, and how many below.
+#[derive(Clone, Copy, Debug, PartialEq, Eq)]
+pub struct Window {
+    pub lead: u32,
+    pub trail: u32,
+}
+
+impl Window {
+    // Whether its zeros leave none of 64 digits.
+    pub fn has_no_digit(self) -> bool
+        ensures { result ≡ no_digit 6 self }
+    {
+        63 < (self.lead as u64) + (self.trail as u64)
     }
-    no_digit(lead, trail)
+
+    // Whether no encoder has it: a window without a digit, but for the 64 and 64 with which it begins.
+    pub fn is_bad(self) -> bool
+        ensures { result ≡ bad_window 6 self }
+    {
+        if self.lead == 64 {
+            return self.trail != 64;
+        }
+        self.has_no_digit()
+    }
+}
+
+// What both ends keep of a point: its time, the delta that led to it, its value's bits, and the window after it.
+#[derive(Clone, Copy, Debug, PartialEq, Eq)]
+pub struct State {
+    pub time: u64,
+    pub delta: u64,
+    pub value: u64,
+    pub window: Window,
 }

@@ -1,6 +1,6 @@
 use mathlib.Core.Path.{refl}
 use Rattle.layout.specs.Windows.{no_digit}
-use Rattle.layout.proofs.no_digit.Goals as goal
+use Rattle.layout.proofs.Window.has_no_digit.Goals as goal
 
 pub returns : goal.returns
 unfolding no_digit
