@@ -8,8 +8,8 @@ use Rattle.layout.specs.Reading.{read_next, read_later}
 use Rattle.layout.specs.Answers.{Reached, point_at, end_at, wrong_at, answer_of, step, first_step}
 use Rattle.layout.proofs.Tests.{neither}
 use Rattle.decode.specs.declared.std_decoder.Step.{Step}
-use Rattle.decode.specs.declared.std_decoder.Phase.{Phase}
-use Rattle.decode.specs.declared.std_decoder.Phase.TheVariants as phase
+use Rattle.std.specs.declared.option.Option.{Option}
+use Rattle.std.specs.Prelude.{Some, None}
 use Rattle.decode.specs.States.{tell, Ending, still, over, Dec, kept}
 use Rattle.decode.specs.Calls.{fresh, shut, open_of, stepped, no_fit, onward, next_by, next_of}
 use Rattle.decode.specs.Parts.{unplaced, comes_to, AtOnce}
@@ -80,11 +80,11 @@ every_state c d n s = record {
 }
 
 -- what was answered at once
-module _ (d : Dec) (n : ℕ) (p : Phase) (at : AtOnce d n p) where
-  pub said_at_once : (a : Step) → p ≡ phase.Ended a → (bs : List Bool) → (tell a, d) ≡ next_of 6 d n bs
+module _ (d : Dec) (n : ℕ) (p : Option Step) (at : AtOnce d n p) where
+  pub said_at_once : (a : Step) → p ≡ Some a → (bs : List Bool) → (tell a, d) ≡ next_of 6 d n bs
   unfolding AtOnce
-  said_at_once a e = let k : AtOnce d n (phase.Ended a) = rw e at at in k
+  said_at_once a e = let k : AtOnce d n (Some a) = rw e at at in k
 
-  pub reads_on : p ≡ phase.Running → (d.ended ≡ still) × (no_fit 6 d n ≡ false)
+  pub reads_on : p ≡ None → (d.ended ≡ still) × (no_fit 6 d n ≡ false)
   unfolding AtOnce
-  reads_on e = let k : AtOnce d n phase.Running = rw e at at in k
+  reads_on e = let k : AtOnce d n None = rw e at at in k

@@ -6,8 +6,9 @@ use Rattle.layout.specs.Reading.{done, ask, item, time_control, time_field, endi
 use Rattle.layout.specs.Answers.{Reached, wrong_at}
 use Rattle.layout.proofs.Table.{drop_at, good_at}
 use Rattle.decode.specs.declared.field.Peeked.{Peeked}
-use Rattle.decode.specs.declared.field.Field.{Field}
-use Rattle.decode.specs.declared.field.Field.TheVariants as field
+use Rattle.std.specs.Prelude.{Ok, Err}
+use Rattle.stream.specs.declared.refusal.Refusal.{Refusal}
+use Rattle.stream.specs.Refusals.{number_of}
 use Rattle.decode.specs.Parts.{place, GotField, comes_to}
 use Rattle.decode.proofs.Fields.{by_short, by_zero, by_other}
 
@@ -44,19 +45,20 @@ row_step_lem : (i : ℕ) → i < 3 → (f : ℤ → Reader) → read_row (row_at
 unfolding read_row row_at
 row_step_lem i h f = rw (drop_at rows (i + 1) row32 (omega arith), add-one (i + 1))
 
-module _ (s : List Bool) (p i q : ℕ) (left : RowsLeft s p i q) (h : i < 3) (g : Field) (got : GotField s q 1 g) where
+module _ (s : List Bool) (p i q : ℕ) (left : RowsLeft s p i q) (h : i < 3) where
   from_here : (f : ℤ → Reader) → comes_to (row_step i f) q s ≡ comes_to (read_row row7 longer_rows f) p s
   from_here f = ap (λ (z : Reader). comes_to z q s) (sym (row_step_lem i h f)) ∙ left f
 
-  pub rows_short : g ≡ field.Short → (f : ℤ → Reader) → wrong_at 7 0 ≡ comes_to (read_row row7 longer_rows f) p s
-  rows_short e f = by_short _ 1 _ q s g got e ∙ from_here f
+  pub rows_short : (x : Refusal) → GotField s q 1 (Err x) → (f : ℤ → Reader) → wrong_at (number_of x) 0 ≡ comes_to (read_row row7 longer_rows f) p s
+  rows_short x k f = by_short _ 1 _ q s x k ∙ from_here f
 
-  pub rows_here : (b : ℕ) (r : Peeked) → g ≡ field.Whole b r → b ≡ 0 → (w : Row) → w ≡ row_at i
-      → (f : ℤ → Reader) (o : Reached) → o ≡ comes_to (row_field w f) (place r) s → o ≡ comes_to (read_row row7 longer_rows f) p s
-  rows_here b r e z w k f o h = (rw k at h) ∙ by_zero _ 1 (row_field (row_at i) f) _ q s g got b r e z ∙ from_here f
+  module _ (x : ℕ × Peeked) (k : GotField s q 1 (Ok x)) where
+    pub rows_here : x.0 ≡ 0 → (w : Row) → w ≡ row_at i
+        → (f : ℤ → Reader) (o : Reached) → o ≡ comes_to (row_field w f) (place x.1) s → o ≡ comes_to (read_row row7 longer_rows f) p s
+    rows_here z w e f o h = (rw e at h) ∙ by_zero _ 1 (row_field (row_at i) f) _ q s x k z ∙ from_here f
 
-  pub rows_next : (b : ℕ) (r : Peeked) → g ≡ field.Whole b r → (b ≡ 0 → ⊥) → RowsLeft s p (i + 1) (place r)
-  rows_next b r e z f = by_other _ 1 (row_field (row_at i) f) _ q s g got b r e z ∙ from_here f
+    pub rows_next : (x.0 ≡ 0 → ⊥) → RowsLeft s p (i + 1) (place x.1)
+    rows_next z f = by_other _ 1 (row_field (row_at i) f) _ q s x k z ∙ from_here f
 
 pub rows_last : (s : List Bool) (p i q : ℕ) → RowsLeft s p i q → i ≤ 3 → 3 ≤ i → (f : ℤ → Reader)
     → comes_to (read_row row32 [] f) q s ≡ comes_to (read_row row7 longer_rows f) p s

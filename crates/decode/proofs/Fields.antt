@@ -3,9 +3,11 @@ use Rattle.std.proofs.Common.{◌≡◌, ℕ, ◌+◌, ◌-◌, ◌*◌, ◌/◌
 use native.Mathlib.Decide.{dec_le}
 use Rattle.stream.specs.Bits.{value_of, bits, field}
 use Rattle.stream.specs.Calls.{limit, Told, given, refused, tell_bits, field_fault, read_of}
-use Rattle.stream.specs.declared.buffered_read.BitsAnswer.{BitsAnswer}
-use Rattle.stream.specs.declared.buffered_read.BitsAnswer.TheVariants as many
+use Rattle.std.specs.declared.result.Result.{Result}
+use Rattle.std.specs.Prelude.{Ok, Err}
 use Rattle.stream.specs.declared.refusal.Refusal.{Refusal}
+use Rattle.stream.specs.declared.refusal.Refusal.TheVariants.{CutShort}
+use Rattle.stream.specs.Refusals.{number_of}
 use Rattle.stream.proofs.Bytes.{length_bits}
 use Rattle.stream.proofs.Taking.{field_lt}
 use Rattle.stream.proofs.Outcomes.{read_is, read_none, told_as}
@@ -14,41 +16,39 @@ use Rattle.layout.specs.Reading.{done, ask, run, Label, point, ending, wrong, Re
 use Rattle.layout.specs.Answers.{point_at, end_at, wrong_at, reached}
 use Rattle.layout.proofs.Runs.{run_there, run_cut}
 use Rattle.decode.specs.declared.field.Peeked.{Peeked}
-use Rattle.decode.specs.declared.field.Field.{Field}
-use Rattle.decode.specs.declared.field.Field.TheVariants as field
 use Rattle.decode.specs.Parts.{Known, place, Holds, GotField, unplaced, comes_to}
 use Rattle.decode.proofs.Peeks.{none_known, known_first, known_rest}
 
 -- ---- the bit reader's answer
 
 module _ (l : List ℕ) (p n : ℕ) (few : n ≤ 64) (short : length l ≤ limit) where
-  module _ (q : ℕ) (a : BitsAnswer) (e : (tell_bits a, q) ≡ read_of l p n) where
-    pub got_whole : (v : ℕ) → a ≡ many.Bits v → (r : Peeked) → (place r ≡ q) × (r.have ≡ 0) × (r.word ≡ 0) → GotField (bits l) p n (field.Whole v r)
+  module _ (q : ℕ) (a : Result ℕ Refusal) (e : (tell_bits a, q) ≡ read_of l p n) where
+    pub got_whole : (v : ℕ) → a ≡ Ok v → (r : Peeked) → (place r ≡ q) × (r.have ≡ 0) × (r.word ≡ 0) → GotField (bits l) p n (Ok (v, r))
     unfolding GotField
     got_whole v f r b = elim (dec_le (p + n) (8 * length l)) [
       | yes h ↦
-          let o = told_as l p n q a (many.Bits v) f e ∙ read_is l p n few short h in
+          let o = told_as l p n q a (Ok v) f e ∙ read_is l p n few short h in
           let t : given (v ∷ []) ≡ given (value_of (field (bits l) p n) ∷ []) = ap (λ (o : Told × ℕ). o.0) o in
           let x : v ≡ value_of (field (bits l) p n) = cc in
           let y : place r ≡ p + n = b.0 ∙ ap (λ (o : Told × ℕ). o.1) o in
           let z : p + n ≤ length (bits l) = rw (length_bits l) h in
           (z, x, rw x (field_lt (bits l) p n), y, none_known (bits l) r b.1 b.2 (rw y z))
       | no h ↦
-          let o = told_as l p n q a (many.Bits v) f e ∙ read_none l p n few short (lt_of_not-le h) in
+          let o = told_as l p n q a (Ok v) f e ∙ read_none l p n few short (lt_of_not-le h) in
           let t : given (v ∷ []) ≡ refused (field_fault 7 (length l) p n) = ap (λ (o : Told × ℕ). o.0) o in
           let z : ◌≡◌ {A = ℕ} 0 1 = cc in
           absurd (omega arith)
     ]
 
-    pub got_short : (x : Refusal) → a ≡ many.Refused x → GotField (bits l) p n field.Short
+    pub got_short : (x : Refusal) → a ≡ Err x → GotField (bits l) p n (Err CutShort)
     unfolding GotField
     got_short x f = elim (dec_le (p + n) (8 * length l)) [
       | yes h ↦
-          let o = told_as l p n q a (many.Refused x) f e ∙ read_is l p n few short h in
-          let t : tell_bits (many.Refused x) ≡ given (value_of (field (bits l) p n) ∷ []) = ap (λ (o : Told × ℕ). o.0) o in
+          let o = told_as l p n q a (Err x) f e ∙ read_is l p n few short h in
+          let t : tell_bits (Err x) ≡ given (value_of (field (bits l) p n) ∷ []) = ap (λ (o : Told × ℕ). o.0) o in
           let z : ◌≡◌ {A = ℕ} 0 1 = cc in
           absurd (omega arith)
-      | no h ↦ rw (length_bits l) (lt_of_not-le h)
+      | no h ↦ (refl, rw (length_bits l) (lt_of_not-le h))
     ]
 
 -- ---- a field out of a word that has it
@@ -58,13 +58,13 @@ module _ (s : List Bool) (q h w n : ℕ) (r : Peeked) (known : Known s q h w) (l
   unfolding Known
   inside = omega (arith, known.1)
 
-  pub got_known : r.have ≡ h - n → r.word ≡ w * 2 ^ n % 2 ^ 64 → GotField s q n (field.Whole (w / 2 ^ (64 - n)) r)
+  pub got_known : r.have ≡ h - n → r.word ≡ w * 2 ^ n % 2 ^ 64 → GotField s q n (Ok (w / 2 ^ (64 - n), r))
   unfolding GotField
   got_known e f =
       let x = known_first s q h w n known l in
       (inside, x, rw x (field_lt s q n), behind, rw (behind, e, f) (known_rest s q h w n known l))
 
-  pub got_digits : r.have ≡ 0 → r.word ≡ 0 → GotField s q n (field.Whole (w / 2 ^ (64 - n)) r)
+  pub got_digits : r.have ≡ 0 → r.word ≡ 0 → GotField s q n (Ok (w / 2 ^ (64 - n), r))
   unfolding GotField
   got_digits e f =
       let x = known_first s q h w n known l in
@@ -80,34 +80,33 @@ known_inside s q h w k = omega (arith, k.1)
 
 -- ---- a reader that begins with the field
 
-module _ (l : Label) (n : ℕ) (f : ℕ → Reader) (p : ℕ) (s : List Bool) (g : Field) (got : GotField s p n g) where
-  pub by_short : g ≡ field.Short → wrong_at 7 0 ≡ comes_to (ask l n f) p s
+module _ (l : Label) (n : ℕ) (f : ℕ → Reader) (p : ℕ) (s : List Bool) where
+  pub by_short : (x : Refusal) → GotField s p n (Err x) → wrong_at (number_of x) 0 ≡ comes_to (ask l n f) p s
   unfolding GotField comes_to unplaced reached
-  by_short e = let k : GotField s p n field.Short = rw e at got in rw (run_cut l n f p s k)
+  by_short x k = rw (k.0, run_cut l n f p s k.1)
 
-  pub by_whole : (v : ℕ) (r : Peeked) → g ≡ field.Whole v r → comes_to (f v) (place r) s ≡ comes_to (ask l n f) p s
+  pub by_whole : (x : ℕ × Peeked) → GotField s p n (Ok x) → comes_to (f x.0) (place x.1) s ≡ comes_to (ask l n f) p s
   unfolding GotField comes_to
-  by_whole v r e =
-      let k : GotField s p n (field.Whole v r) = rw e at got in
-      rw (run_there l n f p s k.0, ← k.1, ← k.3)
+  by_whole x k = rw (run_there l n f p s k.0, ← k.1, ← k.3)
 
--- its number has no more digits than were asked for
-pub whole_lt : (s : List Bool) (p n : ℕ) (g : Field) → GotField s p n g → (v : ℕ) (r : Peeked) → g ≡ field.Whole v r → v < 2 ^ n
-unfolding GotField
-whole_lt s p n g got v r e = let k : GotField s p n (field.Whole v r) = rw e at got in k.2
+module _ (s : List Bool) (p n : ℕ) (x : ℕ × Peeked) (k : GotField s p n (Ok x)) where
+  -- its number has no more digits than were asked for
+  pub whole_lt : x.0 < 2 ^ n
+  unfolding GotField
+  whole_lt = k.2
 
--- what is known of the bits behind it
-pub whole_holds : (s : List Bool) (p n : ℕ) (g : Field) → GotField s p n g → (v : ℕ) (r : Peeked) → g ≡ field.Whole v r → Holds s r
-unfolding GotField
-whole_holds s p n g got v r e = let k : GotField s p n (field.Whole v r) = rw e at got in k.4
+  -- what is known of the bits behind it
+  pub whole_holds : Holds s x.1
+  unfolding GotField
+  whole_holds = k.4
 
 -- a field in which 0 chooses
-module _ (l : Label) (n : ℕ) (y : Reader) (z : ℕ → Reader) (p : ℕ) (s : List Bool) (g : Field) (got : GotField s p n g) (v : ℕ) (r : Peeked) (e : g ≡ field.Whole v r) where
-  pub by_zero : v ≡ 0 → comes_to y (place r) s ≡ comes_to (ask l n (λ x. cond (eqb x 0) y (z x))) p s
-  by_zero h = rw h at (by_whole l n (λ x. cond (eqb x 0) y (z x)) p s g got v r e)
+module _ (l : Label) (n : ℕ) (y : Reader) (z : ℕ → Reader) (p : ℕ) (s : List Bool) (x : ℕ × Peeked) (k : GotField s p n (Ok x)) where
+  pub by_zero : x.0 ≡ 0 → comes_to y (place x.1) s ≡ comes_to (ask l n (λ v. cond (eqb v 0) y (z v))) p s
+  by_zero h = rw h at (by_whole l n (λ v. cond (eqb v 0) y (z v)) p s x k)
 
-  pub by_other : (v ≡ 0 → ⊥) → comes_to (z v) (place r) s ≡ comes_to (ask l n (λ x. cond (eqb x 0) y (z x))) p s
-  by_other h = rw (ne_eqb v 0 h) at (by_whole l n (λ x. cond (eqb x 0) y (z x)) p s g got v r e)
+  pub by_other : (x.0 ≡ 0 → ⊥) → comes_to (z x.0) (place x.1) s ≡ comes_to (ask l n (λ v. cond (eqb v 0) y (z v))) p s
+  by_other h = rw (ne_eqb x.0 0 h) at (by_whole l n (λ v. cond (eqb v 0) y (z v)) p s x k)
 
 -- ---- a reader that is done
 

@@ -1,31 +1,26 @@
 -- What the calls state leaves no choice.
 use Rattle.std.proofs.Common.{◌≡◌, refl, ap}
+use Rattle.std.specs.declared.option.Option.{Option}
+use Rattle.std.specs.declared.result.Result.{Result}
+use Rattle.std.specs.Prelude.{Some, None, ⊤}
+use Rattle.stream.specs.declared.refusal.Refusal.{Refusal}
 use Rattle.stream.specs.Refusals.{number_of}
+use Rattle.stream.proofs.OneOutcome.{told}
 use Rattle.stream.specs.Promises.{Tells}
 use Rattle.stream.specs.Calls.{Told}
 use Rattle.stream.proofs.Outcomes.{by_number}
 use Rattle.layout.specs.Answers.{Answer}
 use Rattle.decode.specs.declared.std_decoder.Step.{Step}
 use Rattle.decode.specs.declared.std_decoder.Step.TheVariants as step
-use Rattle.decode.specs.declared.std_decoder.Phase.{Phase}
-use Rattle.decode.specs.declared.std_decoder.Phase.TheVariants as phase
-use Rattle.decode.specs.declared.std_decoder.OpenAnswer.{OpenAnswer}
-use Rattle.decode.specs.declared.std_decoder.OpenAnswer.TheVariants as opening
 use Rattle.decode.specs.declared.std_decoder.StdDecoder.{StdDecoder}
-use Rattle.decode.specs.declared.std_decoder.unpack.UnpackAnswer.{UnpackAnswer}
-use Rattle.decode.specs.declared.std_decoder.unpack.UnpackAnswer.TheVariants as unpack
-use Rattle.decode.specs.States.{tell, tell_open, Ending, ending_of, Dec, view}
+use Rattle.decode.specs.States.{tell, tell_open, Ending, ending_of, Dec, kept, view}
 use Rattle.decode.specs.Lists.{Stop, tell_stop, Filling}
 use Rattle.decode.specs.Promises.{OneOutcome}
 
 -- ---- answers
 
-open_told : Tells OpenAnswer Told tell_open
-open_told opening.Done opening.Done e = refl
-open_told opening.Done (opening.Refused s) e = cc
-open_told (opening.Refused r) opening.Done e = cc
-open_told (opening.Refused r) (opening.Refused s) e =
-    let n : number_of r ≡ number_of s = cc in ap opening.Refused (by_number r s n)
+open_told : Tells (Result ⊤ Refusal) Told tell_open
+open_told = told _ (λ u v e. refl)
 
 step_told : Tells Step Answer tell
 step_told (step.Point p q) (step.Point r s) e =
@@ -45,35 +40,31 @@ step_told (step.Refused q) (step.Refused s) e =
 
 -- ---- states
 
-phase_told : Tells Phase Ending ending_of
-phase_told phase.Running phase.Running e = refl
-phase_told phase.Running (phase.Ended b) e = cc
-phase_told (phase.Ended a) phase.Running e = cc
-phase_told (phase.Ended a) (phase.Ended b) e = let t : tell a ≡ tell b = cc in ap phase.Ended (step_told a b t)
+ending_told : Tells (Option Step) Ending ending_of
+ending_told None None e = refl
+ending_told None (Some b) e = cc
+ending_told (Some a) None e = cc
+ending_told (Some a) (Some b) e = let t : tell a ≡ tell b = cc in ap Some (step_told a b t)
 
 -- a decoder is its numbers
 by_view : Tells StdDecoder Dec view
 by_view s t e =
-    let f = phase_told s.phase t.phase (ap (λ (d : Dec). d.ended) e) in
+    let f = ending_told s.ended t.ended (ap (λ (d : Dec). d.ended) e) in
     λ i. record {
-      time = (e i).time;
-      delta = (e i).delta;
-      value_bits = (e i).value;
-      leading_zeroes = (e i).window.lead;
-      trailing_zeroes = (e i).window.trail;
+      kept = kept (e i);
       first = (e i).first;
-      phase = f i;
+      ended = f i;
       len = record { 0 = (e i).len };
       r = record { at = record { 0 = (e i).at } };
     }
 
 -- ---- lists
 
-stop_told : Tells UnpackAnswer Stop tell_stop
-stop_told unpack.Full unpack.Full e = refl
-stop_told unpack.Full (unpack.Stopped b) e = cc
-stop_told (unpack.Stopped a) unpack.Full e = cc
-stop_told (unpack.Stopped a) (unpack.Stopped b) e = let t : tell a ≡ tell b = cc in ap unpack.Stopped (step_told a b t)
+stop_told : Tells (Option Step) Stop tell_stop
+stop_told None None e = refl
+stop_told None (Some b) e = cc
+stop_told (Some a) None e = cc
+stop_told (Some a) (Some b) e = let t : tell a ≡ tell b = cc in ap Some (step_told a b t)
 
 -- ---- calls
 

@@ -3,8 +3,8 @@ use Rattle.std.proofs.Common.{◌≡◌, ℕ, ◌+◌, ◌-◌, ◌*◌, ◌/◌
 use lib.Pow.{shl-shr}
 use Rattle.stream.specs.Bits.{value_of, bits, field}
 use Rattle.stream.specs.Calls.{tell_ahead, ahead_of}
-use Rattle.stream.specs.declared.buffered_read.Ahead.{Ahead}
-use Rattle.stream.specs.declared.buffered_read.Ahead.TheVariants as ahead
+use Rattle.std.specs.declared.option.Option.{Option}
+use Rattle.std.specs.Prelude.{Some}
 use Rattle.stream.proofs.Bytes.{length_bits}
 use Rattle.stream.proofs.Taking.{none_read, field_high, field_low, shl_mod}
 use Rattle.stream.proofs.Outcomes.{ahead_there}
@@ -17,7 +17,7 @@ unfolding Known
 none_known s p e f h = rw (e, f) (omega arith, omega arith, rw (← (none_read s (place p) 0 refl)) (sym (zero-mul (2 ^ 64))))
 
 -- a word that is there is known whole
-pub word_known : (l : List ℕ) (p w : ℕ) (a : Ahead) → tell_ahead a ≡ ahead_of l p → a ≡ ahead.Word w → Known (bits l) p 64 w
+pub word_known : (l : List ℕ) (p w : ℕ) (a : Option ℕ) → tell_ahead a ≡ ahead_of l p → a ≡ Some w → Known (bits l) p 64 w
 unfolding Known
 word_known l p w a e f =
     let k = ahead_there l p w (sym (ap tell_ahead f) ∙ e) in

@@ -1,5 +1,6 @@
 -- Unpacking, a step at a time.
-use Rattle.std.proofs.Common.{◌≡◌, ℕ, suc, ◌+◌, ◌-◌, ◌<◌, ◌≤◌, min, Bool, List, [], ◌∷◌, ◌++◌, map, length, take, drop, set, sym, refl, ap, ◌∙◌, add-one, arith, take-append-drop, drop-cons, take-suc-set, drop-set-lt}
+use Rattle.std.proofs.Common.{◌≡◌, length-take-le, ℕ, suc, ◌+◌, ◌-◌, ◌<◌, ◌≤◌, min, Bool, List, [], ◌∷◌, ◌++◌, map, length, take, drop, set, replicate, zero, sym, refl, ap, ◌∙◌, add-one, arith, take-append-drop, drop-cons, take-suc-set, drop-set-lt}
+use Rattle.std.proofs.lemmas.List.{length-replicate}
 use lib.Seq.{append_snoc}
 use Rattle.stream.specs.declared.position.BitPos.{BitPos}
 use Rattle.stream.specs.declared.refusal.Refusal.{Refusal}
@@ -97,3 +98,26 @@ pub all_full : (i n m : ℕ) (d : Dec) (bs : List Bool) (ts vs : List ℕ) (x : 
     → n ≤ i → (i, full, d, ts, vs) ≡ x
 unfolding unpacks_of
 all_full i n m d bs ts vs x q h = let z : n - i ≡ 0 = omega arith in no_more i ts vs _ _ ∙ (rw z at q)
+
+-- ---- a decoder that ended with a point, which it gives again and again
+
+map_replicate : {A : Type 0} (f : A → ℕ) (n : ℕ) (x : A) → map f (replicate n x) ≡ replicate n (f x)
+map_replicate f zero x = refl
+map_replicate f (suc n) x = ap (λ (l : List ℕ). f x ∷ l) (map_replicate f n x)
+
+again : (c n m : ℕ) (d : Dec) (bs : List Bool) (t v b : ℕ) → (a_point t v b, d) ≡ next_of c d m bs
+    → unpacks_of c n d m bs ≡ (replicate n (point_of t v), full, d)
+unfolding unpacks_of on_point
+again c zero m d bs t v b e = refl
+again c (suc n) m d bs t v b e = rw (← e) (ap (behind (point_of t v)) (again c n m d bs t v b e))
+
+pub repeated : (n m : ℕ) (d : Dec) (bs : List Bool) (a : Step) (ts vs xs ys : List ℕ) → (tell a, d) ≡ next_of 6 d m bs
+    → (p : Stored) (b : BitPos) → a ≡ step.Point p b → n ≤ length ts → n ≤ length vs
+    → xs ≡ replicate (length (take n ts)) p.time → ys ≡ replicate (length (take n vs)) p.bits
+    → (n, full, d, xs ++ drop n ts, ys ++ drop n vs) ≡ filling_from 0 ts vs (unpacks_of 6 n d m bs)
+unfolding filling starting_with
+repeated n m d bs a ts vs xs ys e p b z h k f g =
+    let q = point_of p.time p.bits in
+    let times : map (λ (p : Point). p.time) (replicate n q) ≡ replicate n p.time = map_replicate (λ (p : Point). p.time) n q in
+    let values : map (λ (p : Point). p.value) (replicate n q) ≡ replicate n p.bits = map_replicate (λ (p : Point). p.value) n q in
+    rw (none_before ts vs (unpacks_of 6 n d m bs), again 6 n m d bs _ _ _ (told_as a _ d _ e z), times, values, length-replicate n q, length-replicate n p.time, length-replicate n p.bits, f, g, length-take-le n ts h, length-take-le n vs k) refl

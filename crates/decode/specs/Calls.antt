@@ -1,20 +1,22 @@
 -- What each call of the decoder answers and the state it returns, for all states and inputs: document 01, "A decoder step".
-use Rattle.std.specs.Prelude.{ℕ, zero, suc, ◌*◌, Bool, true, false, cond, not, ◌||◌, List, [], ◌∷◌, ◌==◌, nat_lt}
+use Rattle.std.specs.Prelude.{ℕ, zero, suc, ◌*◌, Bool, true, false, cond, not, ◌||◌, List, [], ◌∷◌, ◌==◌, nat_lt, ⊤}
 use Rattle.stream.specs.Refusals.{when, by_fault}
 use Rattle.stream.specs.Calls.{limit, Told, given, refused}
 use Rattle.layout.specs.Windows.{decoder_window, window, no_digit}
 use Rattle.layout.specs.Writing.{state, going}
 use Rattle.layout.specs.Answers.{Reached, point_at, end_at, wrong_at, Answer, refusal, answer_of, step, first_step}
-use Rattle.decode.specs.declared.std_decoder.Next.{Next}
-use Rattle.decode.specs.declared.std_decoder.Opened.{Opened}
+use Rattle.std.specs.declared.result.Result.{Result}
+use Rattle.stream.specs.declared.refusal.Refusal.{Refusal}
+use Rattle.decode.specs.declared.std_decoder.Step.{Step}
+use Rattle.decode.specs.declared.std_decoder.Decoded.{Decoded}
 use Rattle.decode.specs.States.{tell, tell_open, Ending, still, over, Dec, dec, kept, view}
 
 -- ---- outcomes on paper: what was answered, and the state after it; no call writes
 
-abbrev pub told_opened : Opened → Told × Dec
+abbrev pub told_opened : Decoded (Result ⊤ Refusal) → Told × Dec
 told_opened r = (tell_open r.answer, view r.decoder)
 
-abbrev pub told_next : Next → Answer × Dec
+abbrev pub told_next : Decoded Step → Answer × Dec
 told_next r = (tell r.answer, view r.decoder)
 
 -- ---- opening on n bytes: 5, or a decoder before the start

@@ -1,9 +1,9 @@
 -- Unpacking into two lists: a decoder's steps, one after the other, until the lists are full or an answer is no point.
-use Rattle.std.specs.Prelude.{ℕ, zero, suc, min, Bool, List, [], ◌∷◌, ◌++◌, map, length, drop}
+use Rattle.std.specs.Prelude.{ℕ, zero, suc, min, Bool, List, [], ◌∷◌, ◌++◌, map, length, drop, Some, None}
 use Rattle.layout.specs.Writing.{Point, point_of}
 use Rattle.layout.specs.Answers.{Answer, a_point, an_end, refusal}
-use Rattle.decode.specs.declared.std_decoder.unpack.UnpackAnswer.{UnpackAnswer}
-use Rattle.decode.specs.declared.std_decoder.unpack.UnpackAnswer.TheVariants as answer
+use Rattle.std.specs.declared.option.Option.{Option}
+use Rattle.decode.specs.declared.std_decoder.Step.{Step}
 use Rattle.decode.specs.declared.std_decoder.unpack.Unpacked.{Unpacked}
 use Rattle.decode.specs.States.{Dec, tell, view}
 use Rattle.decode.specs.Calls.{next_of}
@@ -12,9 +12,9 @@ pub data Stop : Type 0 where
   full : Stop
   said : Answer → Stop
 
-abbrev pub tell_stop : UnpackAnswer → Stop
-tell_stop answer.Full = full
-tell_stop (answer.Stopped a) = said (tell a)
+abbrev pub tell_stop : Option Step → Stop
+tell_stop None = full
+tell_stop (Some a) = said (tell a)
 
 -- the points given, why there are no more, and the state after it
 abbrev pub Unpacking : Type 0

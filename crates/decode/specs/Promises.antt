@@ -1,11 +1,13 @@
 -- What is promised of the decoder's calls.
-use Rattle.std.specs.Prelude.{◌≡◌, ℕ, ◌*◌, ◌<◌, ◌≤◌, Bool, true, false, List, length, replicate, ◌≢◌}
+use Rattle.std.specs.Prelude.{◌≡◌, ℕ, ◌*◌, ◌<◌, ◌≤◌, Bool, true, false, List, length, replicate, ◌≢◌, ⊤}
 use Rattle.stream.specs.Promises.{Tells}
 use Rattle.stream.specs.Calls.{limit, Told, refused}
 use Rattle.layout.specs.Windows.{no_digit}
 use Rattle.layout.specs.Answers.{Answer, refusal, answers}
-use Rattle.decode.specs.declared.std_decoder.Next.{Next}
-use Rattle.decode.specs.declared.std_decoder.Opened.{Opened}
+use Rattle.std.specs.declared.result.Result.{Result}
+use Rattle.stream.specs.declared.refusal.Refusal.{Refusal}
+use Rattle.decode.specs.declared.std_decoder.Step.{Step}
+use Rattle.decode.specs.declared.std_decoder.Decoded.{Decoded}
 use Rattle.decode.specs.declared.std_decoder.unpack.Unpacked.{Unpacked}
 use Rattle.decode.specs.States.{still, over, Dec}
 use Rattle.decode.specs.Calls.{told_opened, told_next, open_of, stepped, no_fit, onward, next_of, nexts_of}
@@ -13,8 +15,8 @@ use Rattle.decode.specs.Lists.{told_unpacked}
 
 -- `one_outcome`: no two outcomes meet the statement of a call
 pub record OneOutcome : Type 0 where
-  pub «open» : Tells Opened (Told × Dec) told_opened
-  pub next : Tells Next (Answer × Dec) told_next
+  pub «open» : Tells (Decoded (Result ⊤ Refusal)) (Told × Dec) told_opened
+  pub next : Tells (Decoded Step) (Answer × Dec) told_next
   pub unpack : (r s : Unpacked) (ts us vs ws : List ℕ) → told_unpacked r ts vs ≡ told_unpacked s us ws → (r ≡ s) × (ts ≡ us) × (vs ≡ ws)
 
 module _ (c : ℕ) where

@@ -1,12 +1,11 @@
-// A field of a stream, or that it is not wholly there: out of a word that was peeked, or by the bit reader.
+// A field of a stream, out of a word that was peeked or by the bit reader; 7 where it is not wholly there.
 
 ghost use Rattle.std.specs.Prelude.{◌≡◌, ◌+◌, ◌^◌, ◌<◌, ◌≤◌, length};
 ghost use Rattle.stream.specs.Bits.{bits};
 ghost use Rattle.stream.specs.Calls.{limit};
 ghost use Rattle.decode.specs.Parts.{Holds, GotField};
 
-use stream::buffered_read::{Ahead, BitsAnswer};
-use stream::{BitPos, BufferedReader};
+use stream::{BitPos, BufferedReader, Refusal};
 
 // A reader with what is known of the bits behind it: the next `have` are the highest of the word, whose other bits are zero. A field that lies
 // in them is a shift away. The count is as wide as the word, since a smaller one leaves a gap in the struct that is copied about.
@@ -15,13 +14,6 @@ pub struct Peeked {
     pub word: u64,
     pub have: usize,
     pub r: BufferedReader,
-}
-
-// A field's number and what is behind it.
-#[derive(Clone, Copy)]
-pub enum Field {
-    Short,
-    Whole(u64, Peeked),
 }
 
 // A reader of which nothing is known.
@@ -39,27 +31,21 @@ pub(super) fn peek(r: BufferedReader, buf: &[u8]) -> Peeked
     ensures { (result.r.at.0 ≡ r.at.0) × Holds (bits buf.now) result }
 {
     match r.ahead(buf) {
-        Ahead::Short => bare(r),
-        Ahead::Word(w) => Peeked {
-            word: w,
-            have: 64,
-            r: r,
-        },
+        None => bare(r),
+        Some(word) => Peeked { word, have: 64, r },
     }
 }
 
-// The next n bits by the bit reader. Within the limit a read is refused only where they are not all there.
-pub(super) fn read(r: BufferedReader, buf: &[u8], n: u32) -> Field
+// The next n bits by the bit reader, and what is behind them. Within the limit a read is refused only where they are not all there.
+pub(super) fn read(r: BufferedReader, buf: &[u8], n: u32) -> Result<(u64, Peeked), Refusal>
     requires n_bound { n ≤ 64 }
     requires buf_len_bound { length buf.now ≤ limit }
     ensures { GotField (bits buf.now) r.at.0 n result }
 {
     let read = r.read_bits(buf, n);
-    let rest = read.reader;
-    let got = read.answer;
-    match got {
-        BitsAnswer::Refused(_) => Field::Short,
-        BitsAnswer::Bits(v) => Field::Whole(v, bare(rest)),
+    match read.answer {
+        Err(_) => Err(Refusal::CutShort),
+        Ok(v) => Ok((v, bare(read.reader))),
     }
 }
 
@@ -73,7 +59,7 @@ fn further(r: BufferedReader, n: usize) -> BufferedReader
 }
 
 // The next n bits: out of the word where it has them.
-pub(super) fn get(p: Peeked, buf: &[u8], n: u32) -> Field
+pub(super) fn get(p: Peeked, buf: &[u8], n: u32) -> Result<(u64, Peeked), Refusal>
     requires le_n { (1 ≤ n) × (n < 64) }
     requires buf_len_bound { length buf.now ≤ limit }
     requires holds { Holds (bits buf.now) p }
@@ -89,11 +75,11 @@ pub(super) fn get(p: Peeked, buf: &[u8], n: u32) -> Field
         have: p.have - k,
         r: further(r, k),
     };
-    Field::Whole(p.word >> (64 - n), rest)
+    Ok((p.word >> (64 - n), rest))
 }
 
 // The next n bits, which may be all of a word; what is behind them is not kept.
-pub(super) fn get_digits(r: BufferedReader, buf: &[u8], n: u32) -> Field
+pub(super) fn get_digits(r: BufferedReader, buf: &[u8], n: u32) -> Result<(u64, Peeked), Refusal>
     requires le_n { (1 ≤ n) × (n ≤ 64) }
     requires buf_len_bound { length buf.now ≤ limit }
     requires at_in_bounds { r.at.0 ≤ length (bits buf.now) }
@@ -105,5 +91,5 @@ pub(super) fn get_digits(r: BufferedReader, buf: &[u8], n: u32) -> Field
         return read(r, buf, n);
     }
     let rest = bare(further(r, k));
-    Field::Whole(p.word >> (64 - n), rest)
+    Ok((p.word >> (64 - n), rest))
 }

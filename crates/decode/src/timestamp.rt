@@ -9,102 +9,81 @@ ghost use Rattle.layout.specs.Rows.{row7, longer_rows, row32, signed};
 ghost use Rattle.layout.specs.Reading.{ask, item, time_field, Reader, read_row, read_dod, new_time};
 ghost use Rattle.decode.specs.Parts.{place, Holds, comes_to, then_dod, InWidth, then_time};
 
-use super::field::{Field, Peeked, get};
+use super::field::{Peeked, get};
 use layout::row_at;
 use stream::{BufferedReader, Refusal};
 
-// A dod's field: its number, its bits, and what is behind it; or the end.
+// What stands where a time would: the end, or a dod's field, its number and its bits, with what is behind it.
 #[derive(Clone, Copy)]
 pub enum Dod {
-    Refused(Refusal),
     End(BufferedReader),
     Got { raw: u64, width: u32, r: Peeked },
 }
 
-// A time and the delta that led to it.
-#[derive(Clone, Copy)]
-pub enum Time {
-    Refused(Refusal),
-    Got { time: u64, delta: u64 },
-}
-
 // The field of a row that is not the last.
-fn row_field(r: Peeked, buf: &[u8], width: u32) -> Dod
+fn row_field(r: Peeked, buf: &[u8], width: u32) -> Result<Dod, Refusal>
     requires le_width { (1 ≤ width) × (width ≤ 32) }
     requires buf_len_bound { length buf.now ≤ limit }
     requires holds { Holds (bits buf.now) r }
     ensures { ((f : ℤ → Reader) → then_dod (bits buf.now) result f ≡ comes_to (ask (item time_field 0) width (λ x. f (signed width x))) (place r) (bits buf.now)) × InWidth (bits buf.now) result }
 {
-    match get(r, buf, width) {
-        Field::Short => Dod::Refused(Refusal::CutShort),
-        Field::Whole(raw, rest) => Dod::Got {
-            raw: raw,
-            width: width,
-            r: rest,
-        },
-    }
+    let (raw, rest) = get(r, buf, width)?;
+    Ok(Dod::Got {
+        raw,
+        width,
+        r: rest,
+    })
 }
 
 // The field of the last row, in which 0 is the end.
-fn last_field(r: Peeked, buf: &[u8]) -> Dod
+fn last_field(r: Peeked, buf: &[u8]) -> Result<Dod, Refusal>
     requires buf_len_bound { length buf.now ≤ limit }
     requires holds { Holds (bits buf.now) r }
     ensures { ((f : ℤ → Reader) → then_dod (bits buf.now) result f ≡ comes_to (read_row row32 [] f) (place r) (bits buf.now)) × InWidth (bits buf.now) result }
 {
     let last = row_at(3);
-    match get(r, buf, last.width) {
-        Field::Short => Dod::Refused(Refusal::CutShort),
-        Field::Whole(raw, rest) => {
-            if raw == 0 {
-                let end = rest.r;
-                return Dod::End(end);
-            }
-            Dod::Got {
-                raw: raw,
-                width: last.width,
-                r: rest,
-            }
-        }
+    let (raw, rest) = get(r, buf, last.width)?;
+    if raw == 0 {
+        return Ok(Dod::End(rest.r));
     }
+    Ok(Dod::Got {
+        raw,
+        width: last.width,
+        r: rest,
+    })
 }
 
 // Behind the first control bit: a 0 chooses a row, up to the last, which has none.
-fn read_row(r: Peeked, buf: &[u8]) -> Dod
+fn read_row(r: Peeked, buf: &[u8]) -> Result<Dod, Refusal>
     requires buf_len_bound { length buf.now ≤ limit }
     requires holds { Holds (bits buf.now) r }
     ensures { ((f : ℤ → Reader) → then_dod (bits buf.now) result f ≡ comes_to (read_row row7 longer_rows f) (place r) (bits buf.now)) × InWidth (bits buf.now) result }
 {
-    let mut i: usize = 0;
     let mut behind = r;
-    while i < 3 {
-        let Field::Whole(bit, rest) = get(behind, buf, 1) else {
-            return Dod::Refused(Refusal::CutShort);
-        };
+    for i in 0..3 {
+        let (bit, rest) = get(behind, buf, 1)?;
         if bit == 0 {
             let row = row_at(i);
             return row_field(rest, buf, row.width);
         }
         behind = rest;
-        i += 1;
     }
     last_field(behind, buf)
 }
 
 // A dod's control bits and field. The single bit 0 is a dod of 0, which any field holds.
-pub(super) fn read_dod(r: Peeked, buf: &[u8]) -> Dod
+pub(super) fn read_dod(r: Peeked, buf: &[u8]) -> Result<Dod, Refusal>
     requires buf_len_bound { length buf.now ≤ limit }
     requires holds { Holds (bits buf.now) r }
     ensures { ((f : ℤ → Reader) → then_dod (bits buf.now) result f ≡ comes_to (read_dod f) (place r) (bits buf.now)) × InWidth (bits buf.now) result }
 {
-    let Field::Whole(bit, rest) = get(r, buf, 1) else {
-        return Dod::Refused(Refusal::CutShort);
-    };
+    let (bit, rest) = get(r, buf, 1)?;
     if bit == 0 {
-        return Dod::Got {
+        return Ok(Dod::Got {
             raw: 0,
             width: 7,
             r: rest,
-        };
+        });
     }
     read_row(rest, buf)
 }
@@ -122,9 +101,9 @@ fn extend(raw: u64, n: u32) -> u64
     std::num::wrapping_sub_u64(raw, all)
 }
 
-// The new time behind a dod: 10, or 11 where already the delta passes 2^64 - 1; then the delta by a sum that wraps as in the Rust and is by now
+// The new time behind a dod, and the delta that leads to it: 10, or 11 where already the delta passes 2^64 - 1; then the delta by a sum that wraps as in the Rust and is by now
 // the true one; then 11 for the time.
-pub(super) fn new_time(time: u64, delta: u64, raw: u64, n: u32) -> Time
+pub(super) fn new_time(time: u64, delta: u64, raw: u64, n: u32) -> Result<(u64, u64), Refusal>
     requires { (1 ≤ n) × (n ≤ 32) × (raw < 2 ^ n) }
     ensures { (q : ℕ) (s : List Bool) (f : ℕ → ℕ → Reader) → then_time q s result f ≡ comes_to (new_time time (pos delta +ℤ signed n raw) f) q s }
 {
@@ -133,20 +112,16 @@ pub(super) fn new_time(time: u64, delta: u64, raw: u64, n: u32) -> Time
     let all: u64 = 1u64 << n;
     if half < raw {
         if delta < all - raw {
-            return Time::Refused(Refusal::ReadTimeFalls);
+            return Err(Refusal::ReadTimeFalls);
         }
     } else {
         if u64::MAX - delta < raw {
-            return Time::Refused(Refusal::ReadTimePasses);
+            return Err(Refusal::ReadTimePasses);
         }
     }
     let next = std::num::wrapping_add_u64(delta, dod);
     if u64::MAX - time < next {
-        return Time::Refused(Refusal::ReadTimePasses);
+        return Err(Refusal::ReadTimePasses);
     }
-    let now = time + next;
-    Time::Got {
-        time: now,
-        delta: next,
-    }
+    Ok((time + next, next))
 }

@@ -9,22 +9,15 @@ ghost use Rattle.decode.specs.Lists.{told_unpacked, unpacks_of, fills_of};
 ghost use Rattle.decode.specs.Filling.{told_stopped, stopped_of, filling_from};
 
 use super::super::field::bare;
-use super::super::found::{Found, Kept, read_later, read_start};
-use super::{Phase, StdDecoder, Step, at_once, behind, stop, take};
+use super::super::found::{Found, read_later, read_start};
+use super::{StdDecoder, Step, at_once, behind, stop, take};
 use point::{Stored, points_in};
 
-// Why no more points were given: the lists are full, or the answer that is no point.
-#[derive(Clone, Copy)]
-pub enum UnpackAnswer {
-    Full,
-    Stopped(Step),
-}
-
-// How many points were given, why there are no more, and the decoder after it: a caller goes on where it stopped.
+// How many points were given; the answer that is no point, or none where the lists are full; and the decoder after it: a caller goes on where it stopped.
 #[derive(Clone, Copy)]
 pub struct Unpacked {
     pub given: usize,
-    pub answer: UnpackAnswer,
+    pub answer: Option<Step>,
     pub decoder: StdDecoder,
 }
 
@@ -36,7 +29,7 @@ fn stopped(given: usize, d: StdDecoder, answer: Step) -> Unpacked
     let decoder = next.decoder;
     Unpacked {
         given,
-        answer: UnpackAnswer::Stopped(answer),
+        answer: Some(answer),
         decoder,
     }
 }
@@ -56,37 +49,27 @@ fn unpack_later(
     ensures { told_unpacked result times.new values.new ≡ filling_from from times.old values.old (unpacks_of 6 (n - from) (view d) (length buf.now) (bits buf.now)) }
 {
     let len = d.len;
-    let mut k = Kept {
-        time: d.time,
-        delta: d.delta,
-        bits: d.value_bits,
-        lead: d.leading_zeroes,
-        trail: d.trailing_zeroes,
-    };
+    let mut k = d.kept;
     let mut p = bare(d.r);
-    let mut i = from;
-    while i < n {
-        let next = i + 1;
-        let found = read_later(p, buf, k);
-        match found {
-            Found::Refused(why) => {
+    for i in from..n {
+        match read_later(p, buf, k) {
+            Err(why) => {
                 return stopped(i, behind(k, p.r, len), Step::Refused(why));
             }
-            Found::End(end) => {
+            Ok(Found::End(end)) => {
                 return stopped(i, behind(k, p.r, len), Step::End(end.position()));
             }
-            Found::Point(now, rest) => {
+            Ok(Found::Point(now, rest)) => {
                 times[i] = now.time;
-                values[i] = now.bits;
+                values[i] = now.value;
                 k = now;
                 p = rest;
-                i = next;
             }
         }
     }
     Unpacked {
-        given: i,
-        answer: UnpackAnswer::Full,
+        given: n,
+        answer: None,
         decoder: behind(k, p.r, len),
     }
 }
@@ -113,13 +96,13 @@ fn unpack_first(
     requires d_value { ((view d).first ≡ true) × ((view d).ended ≡ still) }
     ensures { told_unpacked result times.new values.new ≡ filling_from 0 times.old values.old (unpacks_of 6 n (view d) (length buf.now) (bits buf.now)) }
 {
-    let found = read_start(d.r, buf, d.leading_zeroes, d.trailing_zeroes);
+    let found = read_start(d.r, buf, d.kept.window);
     let next = take(d, found);
     let e = next.decoder;
     let answer = next.answer;
     let none = Unpacked {
         given: 0,
-        answer: UnpackAnswer::Stopped(answer),
+        answer: Some(answer),
         decoder: e,
     };
     match answer {
@@ -146,28 +129,24 @@ fn unpack_ended(
     requires d_value { (tell answer, view d) ≡ next_of 6 (view d) (length buf.now) (bits buf.now) }
     ensures { told_unpacked result times.new values.new ≡ filling_from 0 times.old values.old (unpacks_of 6 n (view d) (length buf.now) (bits buf.now)) }
 {
-    let mut i: usize = 0;
-    while i < n {
-        let next = i + 1;
-        let stopped = Unpacked {
-            given: i,
-            answer: UnpackAnswer::Stopped(answer),
-            decoder: d,
-        };
-        match answer {
-            Step::End(_) => return stopped,
-            Step::Refused(_) => return stopped,
-            Step::Point(p, _) => {
-                times[i] = p.time;
-                values[i] = p.bits;
-                i = next;
+    let given = 0;
+    let stopped = Unpacked {
+        given,
+        answer: Some(answer),
+        decoder: d,
+    };
+    match answer {
+        Step::End(_) => stopped,
+        Step::Refused(_) => stopped,
+        Step::Point(p, _) => {
+            times[..n].fill(p.time);
+            values[..n].fill(p.bits);
+            Unpacked {
+                given: n,
+                answer: None,
+                decoder: d,
             }
         }
-    }
-    Unpacked {
-        given: i,
-        answer: UnpackAnswer::Full,
-        decoder: d,
     }
 }
 
@@ -184,14 +163,13 @@ pub fn unpack_some(
     if n == 0 {
         return Unpacked {
             given: 0,
-            answer: UnpackAnswer::Full,
+            answer: None,
             decoder,
         };
     }
-    let phase = at_once(decoder, buf.len());
-    match phase {
-        Phase::Ended(answer) => unpack_ended(decoder, buf, answer, times, values, n),
-        Phase::Running => {
+    match at_once(decoder, buf.len()) {
+        Some(answer) => unpack_ended(decoder, buf, answer, times, values, n),
+        None => {
             if decoder.first {
                 return unpack_first(decoder, buf, times, values, n);
             }

@@ -13,4 +13,4 @@ pub returns-then-len-at : goal.returns-then-len-at
 returns-then-len-at c = sym ((misfits 6 _ _).too_late (omega arith) (omega arith) (omega (arith, c.get-at.ensures ∙ ap (λ (p : BitPos). p.0) c.position.ensures)))
 
 pub returns : goal.returns
-returns c = c.no_digit.ensures ∙ sym ((misfits 6 _ _).otherwise (omega arith) (omega arith) (omega (arith, c.get-at.ensures ∙ ap (λ (p : BitPos). p.0) c.position.ensures)))
+returns c = c.has_no_digit.ensures ∙ sym ((misfits 6 _ _).otherwise (omega arith) (omega arith) (omega (arith, c.get-at.ensures ∙ ap (λ (p : BitPos). p.0) c.position.ensures)))

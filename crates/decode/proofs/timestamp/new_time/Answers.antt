@@ -1,7 +1,7 @@
 use Rattle.stream.proofs.Taking.{one_shl}
 use Rattle.std.proofs.Common.{◌≡◌, pos, ◌+ℤ◌, arith, rules}
 use Rattle.layout.specs.Rows.{signed}
-use Rattle.decode.specs.Parts.{then_time}
+use Rattle.decode.specs.Parts.{then_found}
 use Rattle.decode.proofs.Times.{sum_falls, sum_above, wraps_below, wraps_above, time_falls, time_passes, time_got}
 use Rattle.decode.proofs.timestamp.new_time.Goals as goal
 use Rattle.decode.proofs.timestamp.new_time.Goals.{then-half-raw+else-delta-all, else-half-raw+else-delta-raw}
@@ -10,19 +10,19 @@ pub overflow_sub-all : goal.overflow_sub-all
 overflow_sub-all c = omega (arith, one_shl c.args.n 64 (omega arith))
 
 pub returns-then-delta-all : goal.returns-then-delta-all
-unfolding then_time
+unfolding then_found
 returns-then-delta-all c q s f =
     let a = c.args in
     time_falls a.time q s f _ (sum_falls a.n a.raw (search rules) (search rules) (search rules) a.delta (omega arith) (omega arith))
 
 pub returns-then-delta-raw : goal.returns-then-delta-raw
-unfolding then_time
+unfolding then_found
 returns-then-delta-raw c q s f =
     let a = c.args in
     time_passes a.time q s f _ _ (sum_above a.n a.raw (search rules) (search rules) (search rules) a.delta (omega arith)) (omega arith)
 
 pub returns-then-time-next : goal.returns-then-time-next
-unfolding then_time
+unfolding then_found
 returns-then-time-next c q s f =
     -- behind both checks the wrapping sum is the true one
     let sum : pos c.args.delta +ℤ signed c.args.n c.args.raw ≡ pos c.wrapping_add_u64-next.result =
@@ -33,7 +33,7 @@ returns-then-time-next c q s f =
     time_passes c.args.time q s f _ _ sum (omega arith)
 
 pub returns : goal.returns
-unfolding then_time
+unfolding then_found
 returns c q s f =
     -- behind both checks the wrapping sum is the true one
     let sum : pos c.args.delta +ℤ signed c.args.n c.args.raw ≡ pos c.wrapping_add_u64-next.result =

@@ -1,15 +1,16 @@
+use Rattle.std.proofs.lemmas.Result.{err_from_is_err_and}
 use Rattle.std.proofs.Common.{rules}
-use Rattle.decode.specs.Parts.{then_dod, InWidth}
+use Rattle.decode.specs.Parts.{then_found, Then, dod_then, WidthOf}
 use Rattle.decode.proofs.Fields.{by_short, by_whole, whole_lt, whole_holds}
 use Rattle.decode.proofs.timestamp.row_field.Goals as goal
 
-pub returns-in-Short : goal.returns-in-Short
-unfolding then_dod InWidth
-returns-in-Short c = (λ f. by_short _ _ _ _ _ _ c.get.ensures c.in-Short.is, tt)
+pub returns-in_err-raw : goal.returns-in_err-raw
+unfolding then_found Then dod_then WidthOf
+returns-in_err-raw c = let p = err_from_is_err_and c.from_residual.result c.from_residual.ensures.1 in rw (p.1, p.2) (λ f. by_short _ _ _ _ _ _ c.in_err-raw.ensures, tt)
 
-pub returns-in-Whole : goal.returns-in-Whole
-unfolding then_dod InWidth
-returns-in-Whole c = (
-  λ f. by_whole _ _ _ _ _ _ c.get.ensures _ _ c.in-Whole.is,
-  (search rules, search rules, whole_lt _ _ _ _ c.get.ensures _ _ c.in-Whole.is, whole_holds _ _ _ _ c.get.ensures _ _ c.in-Whole.is),
+pub returns : goal.returns
+unfolding then_found Then dod_then WidthOf
+returns c = (
+  λ f. by_whole _ _ _ _ _ _ c.in_ok-raw.ensures,
+  (search rules, search rules, whole_lt _ _ _ _ c.in_ok-raw.ensures, whole_holds _ _ _ _ c.in_ok-raw.ensures),
 )

@@ -1,18 +1,19 @@
+use Rattle.std.proofs.lemmas.Result.{err_from_is_err_and}
 use Rattle.std.proofs.Common.{arith}
 use Rattle.layout.specs.Reading.{read_digits}
-use Rattle.decode.specs.Parts.{then_value, Behind}
+use Rattle.decode.specs.Parts.{then_found, Then}
 use Rattle.decode.proofs.Fields.{by_short, whole_holds}
 use Rattle.decode.proofs.Values.{digits_read}
 use Rattle.decode.proofs.value.read_digits.Goals as goal
 
-pub returns-in-Short : goal.returns-in-Short
-unfolding then_value Behind read_digits
-returns-in-Short c = (λ f. by_short _ _ _ _ _ _ c.get_digits.ensures c.in-Short.is, tt)
+pub returns-in_err-x : goal.returns-in_err-x
+unfolding then_found Then read_digits
+returns-in_err-x c = let p = err_from_is_err_and c.from_residual.result c.from_residual.ensures.1 in rw (p.1, p.2) (λ f. by_short _ _ _ _ _ _ c.in_err-x.ensures, tt)
 
-pub returns-in-Whole : goal.returns-in-Whole
-unfolding then_value Behind
-returns-in-Whole c =
+pub returns : goal.returns
+unfolding then_found Then
+returns c =
     let a = c.args in (
-      λ f. digits_read _ _ a.previous a.lead a.trail _ c.get_digits.ensures _ _ c.in-Whole.is (omega arith) f,
-      (whole_holds _ _ _ _ c.get_digits.ensures _ _ c.in-Whole.is, omega arith),
+      λ f. digits_read _ _ a.previous a.w _ c.in_ok-x.ensures (omega arith) f,
+      (whole_holds _ _ _ _ c.in_ok-x.ensures, omega arith),
     )

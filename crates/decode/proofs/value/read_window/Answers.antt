@@ -1,49 +1,46 @@
+use Rattle.std.proofs.lemmas.Result.{err_from_is_err_and}
 use Rattle.std.proofs.Common.{◌∙◌, arith, rules}
 use Rattle.layout.specs.Reading.{read_window}
-use Rattle.decode.specs.Parts.{then_head, Sound}
+use Rattle.decode.specs.Parts.{then_found, Then, head_then, SoundHead}
 use Rattle.decode.proofs.Fields.{by_short, by_whole, whole_lt, whole_holds, known_inside}
 use Rattle.decode.proofs.Values.{opened_bad, opened_good, window_read_lem}
 use Rattle.decode.proofs.value.read_window.Goals as goal
 
-pub returns-in_default : goal.returns-in_default
-unfolding then_head Sound read_window
-returns-in_default c = (λ v w f. by_short _ _ _ _ _ _ c.get.ensures c.in_default.is, tt)
+pub returns-in_err-zeros : goal.returns-in_err-zeros
+unfolding then_found Then SoundHead read_window
+returns-in_err-zeros c = let p = err_from_is_err_and c.from_residual.result c.from_residual.ensures.1 in rw (p.1, p.2) (λ v w f. by_short _ _ _ _ _ _ c.in_err-zeros.ensures, tt)
 
 pub get-requires-2 : goal.get-requires-2
-get-requires-2 c = record { le_n = search rules; buf_len_bound = search rules; holds = whole_holds _ _ _ _ c.get.ensures _ _ c.in-Whole.is }
+get-requires-2 c = record { le_n = search rules; buf_len_bound = search rules; holds = whole_holds _ _ _ _ c.in_ok-zeros.ensures }
 
-pub returns-in_default-get : goal.returns-in_default-get
-unfolding then_head Sound read_window
-returns-in_default-get c = (
-  λ v w f. by_short _ _ _ _ _ _ c.get-2.ensures c.in_default-get.is
-      ∙ by_whole _ _ _ _ _ _ c.get.ensures _ _ c.in-Whole.is,
-  tt,
-)
+pub returns-in_err-less : goal.returns-in_err-less
+unfolding then_found Then SoundHead read_window
+returns-in_err-less c = let p = err_from_is_err_and c.from_residual-in_err-less.result c.from_residual-in_err-less.ensures.1 in rw (p.1, p.2) (λ v w f. by_short _ _ _ _ _ _ c.in_err-less.ensures ∙ by_whole _ _ _ _ _ _ c.in_ok-zeros.ensures, tt)
 
-pub overflow_cast-l : goal.overflow_cast-l
-overflow_cast-l c = omega (arith, whole_lt _ _ _ _ c.get.ensures _ _ c.in-Whole.is)
+pub overflow_cast-lead : goal.overflow_cast-lead
+overflow_cast-lead c = omega (arith, whole_lt _ _ _ _ c.in_ok-zeros.ensures)
 
 pub overflow_cast-size : goal.overflow_cast-size
-overflow_cast-size c = omega (arith, whole_lt _ _ _ _ c.get-2.ensures _ _ c.in-Whole-get.is)
+overflow_cast-size c = omega (arith, whole_lt _ _ _ _ c.in_ok-less.ensures)
 
 pub overflow_add-size : goal.overflow_add-size
-overflow_add-size c = omega (arith, whole_lt _ _ _ _ c.get-2.ensures _ _ c.in-Whole-get.is)
+overflow_add-size c = omega (arith, whole_lt _ _ _ _ c.in_ok-less.ensures)
 
-pub overflow_add-l : goal.overflow_add-l
-overflow_add-l c = omega (arith, whole_lt _ _ _ _ c.get.ensures _ _ c.in-Whole.is, whole_lt _ _ _ _ c.get-2.ensures _ _ c.in-Whole-get.is)
+pub overflow_add-lead : goal.overflow_add-lead
+overflow_add-lead c = omega (arith, whole_lt _ _ _ _ c.in_ok-zeros.ensures, whole_lt _ _ _ _ c.in_ok-less.ensures)
 
-pub returns-then-l-size-gt64 : goal.returns-then-l-size-gt64
-unfolding then_head Sound
-returns-then-l-size-gt64 c = (
+pub returns-then-lead-size-gt64 : goal.returns-then-lead-size-gt64
+unfolding then_found Then SoundHead
+returns-then-lead-size-gt64 c = (
   λ v w f. opened_bad v _ _ _ _ f (omega arith)
-      ∙ window_read_lem _ _ _ _ _ c.get.ensures _ _ c.in-Whole.is c.get-2.ensures _ _ c.in-Whole-get.is f,
+      ∙ window_read_lem _ _ _ _ _ c.in_ok-zeros.ensures c.in_ok-less.ensures f,
   tt,
 )
 
 pub returns : goal.returns
-unfolding then_head Sound
+unfolding then_found Then head_then SoundHead
 returns c = (
   λ v w f. opened_good v _ _ _ _ f (omega arith)
-      ∙ window_read_lem _ _ _ _ _ c.get.ensures _ _ c.in-Whole.is c.get-2.ensures _ _ c.in-Whole-get.is f,
-  (omega arith, known_inside _ _ _ _ (whole_holds _ _ _ _ c.get-2.ensures _ _ c.in-Whole-get.is)),
+      ∙ window_read_lem _ _ _ _ _ c.in_ok-zeros.ensures c.in_ok-less.ensures f,
+  (omega arith, known_inside _ _ _ _ (whole_holds _ _ _ _ c.in_ok-less.ensures)),
 )

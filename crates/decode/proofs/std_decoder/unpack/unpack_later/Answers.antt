@@ -3,10 +3,10 @@ use Rattle.stream.specs.declared.position.BitPos.{BitPos}
 use Rattle.stream.proofs.Bytes.{length_bits}
 use Rattle.layout.specs.Answers.{an_end}
 use Rattle.decode.specs.States.{view}
+use Rattle.decode.specs.Parts.{Then, CarriedOn}
 use Rattle.decode.proofs.CallLaws.{fit_gives}
 use Rattle.decode.proofs.Peeks.{none_known}
 use Rattle.decode.proofs.Fields.{known_inside}
-use Rattle.decode.proofs.Steps.{carried_holds}
 use Rattle.decode.proofs.Unpacks.{all_full}
 use Rattle.decode.proofs.Later.{begins, gives_one, ends_there, refuses_there, with_lists, full_lists}
 use Rattle.decode.proofs.std_decoder.unpack.unpack_later.Goals as goal
@@ -17,38 +17,37 @@ loop-i-init c =
     let b = c.bare-p.ensures in
     (search rules, search rules, search rules, omega arith, none_known _ _ b.1 b.2 (rw (b.0, length_bits) k.2), k.3, k.0, refl)
 
-pub read_later-found-requires : goal.read_later-found-requires
-read_later-found-requires c = record { trail_bound = search rules; buf_len_bound = search rules; holds = search rules }
-
-pub returns-in-Refused : goal.returns-in-Refused
-returns-in-Refused c =
+pub returns-in-Err : goal.returns-in-Err
+returns-in-Err c =
     let loop = c.loop-i in
     with_lists c.stopped.result _ _ _ _ _ _ _ c.stopped.ensures c.behind.ensures refl
-    ∙ refuses_there _ _ _ _ _ _ c.read_later-found.ensures.0 loop.invariant.5 loop.invariant.6 (length_bits _) (known_inside _ _ _ _ loop.invariant.4) loop.invariant.3 _ _ _ _ _ loop.invariant.7 (omega arith) _ c.in-Refused.is
+    ∙ refuses_there _ _ _ _ _ _ c.in-Err.ensures.0 loop.invariant.5 loop.invariant.6 (length_bits _) (known_inside _ _ _ _ loop.invariant.4) loop.invariant.3 _ _ _ _ _ loop.invariant.7 (omega arith) _ refl
     ∙ (begins (view c.args.d) _ _ _ _ _ _ _ c.requires.d_value.0 c.requires.d_value.1 c.bare-p.ensures.0)
 
-pub returns-in-End : goal.returns-in-End
-returns-in-End c =
+pub returns-in-Ok-End : goal.returns-in-Ok-End
+returns-in-Ok-End c =
     let loop = c.loop-i in
-    with_lists c.stopped-in-End.result _ _ _ _ _ _ _ c.stopped-in-End.ensures c.behind-in-End.ensures (ap (λ (p : BitPos). an_end p.0) c.position.ensures)
-    ∙ ends_there _ _ _ _ _ _ c.read_later-found.ensures.0 loop.invariant.5 loop.invariant.6 (length_bits _) (known_inside _ _ _ _ loop.invariant.4) loop.invariant.3 _ _ _ _ _ loop.invariant.7 (omega arith) _ c.in-End.is
+    let k = rw c.in-Ok-End.field-0-is at c.in-Ok-End.ensures in
+    with_lists c.stopped-in-Ok-End.result _ _ _ _ _ _ _ c.stopped-in-Ok-End.ensures c.behind-in-Ok-End.ensures (ap (λ (p : BitPos). an_end p.0) c.position.ensures)
+    ∙ ends_there _ _ _ _ _ _ k.0 loop.invariant.5 loop.invariant.6 (length_bits _) (known_inside _ _ _ _ loop.invariant.4) loop.invariant.3 _ _ _ _ _ loop.invariant.7 (omega arith) _ refl
     ∙ (begins (view c.args.d) _ _ _ _ _ _ _ c.requires.d_value.0 c.requires.d_value.1 c.bare-p.ensures.0)
 
 pub loop-i-preserved : goal.loop-i-preserved
+unfolding Then CarriedOn
 loop-i-preserved c =
     let loop = c.loop-i in
-    let k = carried_holds _ _ c.read_later-found.ensures.1 _ _ c.in-Point.is in (
+    let k = rw c.in-Ok-Point.field-0-is at c.in-Ok-Point.ensures in (
       search rules,
       search rules,
       search rules,
-      k.1,
-      k.0,
+      k.1.1,
+      k.1.0,
       loop.invariant.5,
       loop.invariant.6,
-      gives_one _ _ _ _ _ _ c.read_later-found.ensures.0 loop.invariant.5 loop.invariant.6 (length_bits _) (known_inside _ _ _ _ loop.invariant.4) loop.invariant.3 _ _ _ _ _ loop.invariant.7 (omega arith) _ _ c.in-Point.is (omega arith) (omega arith),
+      gives_one _ _ _ _ _ _ k.0 loop.invariant.5 loop.invariant.6 (length_bits _) (known_inside _ _ _ _ loop.invariant.4) loop.invariant.3 _ _ _ _ _ loop.invariant.7 (omega arith) _ _ refl (omega arith) (omega arith),
     )
 
 pub returns : goal.returns
 returns c =
     let loop = c.loop-i in
-    full_lists _ _ _ _ _ c.behind-2.ensures ∙ all_full _ _ _ _ _ _ _ _ loop.invariant.7 (omega arith) ∙ (begins (view c.args.d) _ _ _ _ _ _ _ c.requires.d_value.0 c.requires.d_value.1 c.bare-p.ensures.0)
+    full_lists _ _ _ _ _ _ (omega arith) c.behind-2.ensures ∙ all_full _ _ _ _ _ _ _ _ loop.invariant.7 (omega arith) ∙ (begins (view c.args.d) _ _ _ _ _ _ _ c.requires.d_value.0 c.requires.d_value.1 c.bare-p.ensures.0)
