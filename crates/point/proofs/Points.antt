@@ -1,12 +1,11 @@
 -- The promises of points.
 use mathlib.Core.Path.{◌≡◌, refl, sym, ap, ◌∙◌}
-use mathlib.Core.Bool.{Bool, true, false, not, ◌&&◌, ◌||◌, or-true, and_self, not-or_self}
+use mathlib.Core.Bool.{true, or-true, and_self, not-or_self}
 use Prim.Native.Nat.{ℕ}
 use lib.Ieee.{Float, nan, inf, fin, eq, is_nan, binary64, to_bits, of_bits}
 use lib.Ieee.Bits.{of_bits-to_bits, to_bits-of_bits, nan_bits_is}
 use native.Mathlib.Omega.{arith}
 use borrow.Author.Tests.{lt-ltb, le-ltb, eq-eqb, ne_eqb}
-use Rattle.point.specs.Points.{time_order}
 use Rattle.point.specs.Promises.{ThereAndBack, Alike, ByTime}
 use Rattle.point.specs.Alike.{self_eq}
 

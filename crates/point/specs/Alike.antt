@@ -1,4 +1,4 @@
--- Likeness of points is an equivalence, which is what `Eq` asks of `==`. `same_equiv` puts it together of the times' `==` and of that of values.
+-- Being alike is an equivalence, as std's `Eq` asks of `==`: at the times, at the values, and so at points.
 use Rattle.std.specs.Prelude.{◌≡◌, ◌*◌, Bool, true, false, not, ◌&&◌, ◌||◌, Float}
 use Rattle.std.specs.Cmp.{IsEquivalence, and_equiv, on_equiv, nat_eq_equiv, per_alike}
 use Rattle.std.specs.Float.Cmp.{floats_per}

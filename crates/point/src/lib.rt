@@ -46,7 +46,7 @@ impl DataPoint {
         self.value
     }
 
-    // The Rust's order, which looks at the times alone. It is no `Ord`, whose law `matches_eq` asks that points are equal where their order is `Equal`.
+    // The Rust's order, by the times alone, as `by_time` says. No `Ord`: its law `matches_eq` asks that points that stand equal in the order are `==`.
     pub fn cmp(self, other: DataPoint) -> Ordering
         ensures { result ≡ time_order self.time other.time }
     {
