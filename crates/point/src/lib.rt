@@ -93,7 +93,7 @@ impl From<Stored> for DataPoint {
     }
 }
 
-// How many points two lists have: as many as the shorter.
+// How many points two lists have: as many as the shorter. Times and values are two lists, as C hands them in (`include/tsz.h`).
 pub fn points_in(times: &[u64], values: &[u64]) -> usize
     ensures { result ≡ min (length times.now) (length values.now) }
 {
