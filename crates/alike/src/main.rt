@@ -3,7 +3,8 @@
 
 #![tactic(auto)]
 
-use point::{DataPoint, Ordering, Stored};
+use point::{DataPoint, Stored};
+use std::cmp::Ordering;
 use std::io::{self, Stdout};
 
 // Zeros, the smallest and the largest numbers, ones, a third, infinities, NaNs with and without sign and payload.
@@ -40,15 +41,14 @@ fn say_hex(out: Stdout, n: u64, width: usize) -> io::Result<()> {
 }
 
 fn point_of(time: u64, bits: u64) -> DataPoint {
-    let s = Stored { time, bits };
-    s.to_point()
+    DataPoint::from(Stored { time, bits })
 }
 
 // The bits as a value, and the value's bits.
 fn say_back(out: Stdout, bits: u64) -> io::Result<()> {
     say_hex(out, bits, 16)?;
     say(out, b" ")?;
-    let s = point_of(7, bits).to_stored();
+    let s = Stored::from(point_of(7, bits));
     say_hex(out, s.bits, 16)?;
     say(out, b" ")?;
     say_number(out, s.time)?;
@@ -56,7 +56,7 @@ fn say_back(out: Stdout, bits: u64) -> io::Result<()> {
 }
 
 fn say_same(out: Stdout, a: DataPoint, b: DataPoint) -> io::Result<()> {
-    if a.same(b) {
+    if a == b {
         say(out, b"=")
     } else {
         say(out, b".")

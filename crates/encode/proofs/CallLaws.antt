@@ -17,12 +17,11 @@ use Rattle.stream.proofs.Outcomes.{none_holds, not_when, or_some, or_none, by_no
 use Rattle.layout.specs.Windows.{window, bad_window}
 use Rattle.layout.specs.Writing.{Point, state, time_fault, start_bits, marker, point_bits, state_after}
 use Rattle.layout.proofs.Tests.{neither}
-use Rattle.point.specs.declared.Stored.{Stored}
 use Rattle.encode.specs.declared.code.Code.{Code}
 use Rattle.encode.specs.declared.code.PointCode.{PointCode}
 use Rattle.encode.specs.declared.std_encoder.Standing.{Standing}
 use Rattle.encode.specs.declared.std_encoder.Standing.TheVariants as stands
-use Rattle.encode.specs.States.{Enc, enc, progress, point_of}
+use Rattle.encode.specs.States.{Enc, enc, progress}
 use Rattle.encode.specs.Calls.{Outcome, no_fit, standing, room_fault, point_fault, open_fault, fresh, shut, open_of, after, encode_of, marked, close_of}
 use Rattle.encode.specs.Promises.{OpenFault, Misfit, StandingFault, PointFault}
 use Rattle.encode.specs.Parts.{fault_of, refused_by, word_of, words, Coded}
@@ -169,10 +168,6 @@ module _ (e : Enc) (n : ℕ) (bs : List Bool) (p : Point) (k : PointCode) (z : 0
       (given [], enc e.len q (state p.time (p.time - e.time) p.value (window k.leading k.trailing)) false false, m)
       (given [], after 6 e p, replaced bs e.at (point_bits 6 (progress e) p)) = λ i. (given [], enc e.len (place i) (kept i) false false, put i) in
       done ∙ sym (accepted 6 e n bs p ((point_faults 6 e n bs p).none (sym z) (sym d.0) (rw size_is h)))
-
--- the same point in its other form
-pub same_point : (e : Enc) (n : ℕ) (bs : List Bool) (o : Outcome) (p q : Stored) → p ≡ q → o ≡ encode_of 6 e n bs (point_of p) → o ≡ encode_of 6 e n bs (point_of q)
-same_point e n bs o p q h f = f ∙ ap (λ (x : Stored). encode_of 6 e n bs (point_of x)) h
 
 -- ---- the two ends
 

@@ -284,7 +284,7 @@ impl StdEncoder {
     pub fn encode_point(self, buf: &mut [u8], point: DataPoint) -> Encoded
         ensures { told_encoded result buf.new ≡ encode_of 6 (view self) (length buf.old) (bits buf.old) (point_of (to_stored point)) }
     {
-        self.encode(buf, point.to_stored())
+        self.encode(buf, Stored::from(point))
     }
 
     // Closes the stream with the marker, for which room was kept: 12, then 13.

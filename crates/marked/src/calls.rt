@@ -86,7 +86,7 @@ pub(super) fn offered_float(
     let p = DataPoint::new(time, value);
     let done = e.encode_point(buf, p);
     let answer = done.answer;
-    say_offer(out, p.to_stored(), answer, e)?;
+    say_offer(out, Stored::from(p), answer, e)?;
     Ok(done.encoder)
 }
 

@@ -1,9 +1,8 @@
 -- The worked cases, by computing.
 use mathlib.Core.Path.{refl}
 use lib.Ieee.{eq, is_nan, to_bits, of_bits}
-use Rattle.point.specs.Points.{time_order}
 use Rattle.point.specs.Cases.{seen, expected, cases, Worked}
 
 pub worked : Worked
-unfolding eq is_nan to_bits of_bits time_order seen expected cases
+unfolding eq is_nan to_bits of_bits seen expected cases
 worked = refl

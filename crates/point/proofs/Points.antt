@@ -1,25 +1,25 @@
 -- The promises of points.
 use mathlib.Core.Path.{◌≡◌, refl, sym, ap, ◌∙◌}
-use mathlib.Core.Bool.{Bool, true, false, not, ◌&&◌, ◌||◌, or-true}
+use mathlib.Core.Bool.{true, or-true, and_self, not-or_self}
 use Prim.Native.Nat.{ℕ}
-use lib.Ieee.{eq, is_nan, binary64, to_bits, of_bits}
+use lib.Ieee.{Float, nan, inf, fin, eq, is_nan, binary64, to_bits, of_bits}
 use lib.Ieee.Bits.{of_bits-to_bits, to_bits-of_bits, nan_bits_is}
 use native.Mathlib.Omega.{arith}
 use borrow.Author.Tests.{lt-ltb, le-ltb, eq-eqb, ne_eqb}
-use Rattle.point.specs.Points.{time_order}
 use Rattle.point.specs.Promises.{ThereAndBack, Alike, ByTime}
-use Rattle.point.proofs.Floats.{self_eq, is_nan_lem}
-
--- a value with itself
-or_nan : (b : Bool) → (not b || (b && b)) ≡ true
-or_nan true = refl
-or_nan false = refl
+use Rattle.point.specs.Alike.{self_eq}
 
 pub alike : Alike
 alike = record {
-  self = λ p. rw (eq-eqb p.time p.time refl, self_eq p.value) (or_nan (is_nan p.value));
+  self = λ p. rw (eq-eqb p.time p.time refl, self_eq p.value, and_self (is_nan p.value)) (not-or_self (is_nan p.value));
   nans = λ p q e x y. rw (eq-eqb p.time q.time e, x, y) (or-true (eq p.value q.value));
 }
+
+is_nan_lem : (x : Float) → is_nan x ≡ true → x ≡ nan
+unfolding is_nan
+is_nan_lem nan e = refl
+is_nan_lem (inf s) e = cc
+is_nan_lem (fin s m d) e = cc
 
 pub there_and_back : ThereAndBack
 unfolding to_bits
@@ -30,7 +30,6 @@ there_and_back = record {
 }
 
 pub by_time : (x y : ℕ) → ByTime x y
-unfolding time_order
 by_time x y = record {
   less = λ h. simp (lt-ltb x y h);
   equal = λ e. simp (le-ltb x y (omega arith), eq-eqb x y e);

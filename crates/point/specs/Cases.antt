@@ -1,8 +1,8 @@
 -- Worked cases of points: which are alike, their order, and what comes back of a value's bits.
 use Rattle.std.specs.Prelude.{◌≡◌, Bool, true, false, List, [], ◌∷◌, map, ℕ}
 use Rattle.point.specs.Points.{same_of, time_order, to_stored, to_point}
-use Rattle.point.specs.declared.Ordering.{Ordering}
-use Rattle.point.specs.declared.Ordering.TheVariants.{Less, Equal, Greater}
+use Rattle.std.specs.declared.cmp.Ordering.{Ordering}
+use Rattle.std.specs.declared.cmp.Ordering.TheVariants.{Less, Equal, Greater}
 
 pub data Case : Type 0 where
   -- two points, each a time and the bits of a value

@@ -1,3 +1,4 @@
 pub mod Points
+pub mod Alike
 pub mod Cases
 pub mod Promises

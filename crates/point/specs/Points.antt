@@ -4,8 +4,8 @@ use Rattle.std.specs.Float.Ieee.{eq, is_nan, to_bits, of_bits}
 use Rattle.std.specs.Float.{binary64}
 use Rattle.point.specs.declared.DataPoint.{DataPoint}
 use Rattle.point.specs.declared.Stored.{Stored}
-use Rattle.point.specs.declared.Ordering.{Ordering}
-use Rattle.point.specs.declared.Ordering.TheVariants.{Less, Equal, Greater}
+use Rattle.std.specs.declared.cmp.Ordering.{Ordering}
+use Rattle.std.specs.declared.cmp.Ordering.TheVariants.{Less, Equal, Greater}
 
 abbrev pub new_of : ℕ → Float → DataPoint
 new_of time value = record { time = time; value = value }
@@ -15,7 +15,7 @@ abbrev pub same_of : DataPoint → DataPoint → Bool
 same_of a b = eqb a.time b.time && (eq a.value b.value || (is_nan a.value && is_nan b.value))
 
 -- the order of two points is that of their times
-unfoldable pub time_order : ℕ → ℕ → Ordering
+abbrev pub time_order : ℕ → ℕ → Ordering
 time_order x y = cond (ltb x y) Less (cond (eqb x y) Equal Greater)
 
 -- a point with its value's bits; lib.Ieee writes its one NaN as 0x7ff8000000000000

@@ -5,7 +5,7 @@ use Rattle.std.specs.Float.{binary64}
 use Rattle.point.specs.Points.{same_of, time_order, to_stored, to_point}
 use Rattle.point.specs.declared.DataPoint.{DataPoint}
 use Rattle.point.specs.declared.Stored.{Stored}
-use Rattle.point.specs.declared.Ordering.TheVariants.{Less, Equal, Greater}
+use Rattle.std.specs.declared.cmp.Ordering.TheVariants.{Less, Equal, Greater}
 
 -- `there_and_back`: what the two forms keep
 pub record ThereAndBack : Type 0 where

@@ -3,28 +3,25 @@
 #![tactic(auto)]
 
 ghost use Rattle.std.specs.Prelude.{◌≡◌, min, length};
+ghost use Rattle.std.specs.Cmp.{partial_equiv_from_equiv};
 ghost use Rattle.point.specs.Points.{new_of, same_of, time_order, to_stored, to_point};
+ghost use Rattle.point.specs.Alike.{same_equiv};
+
+use std::cmp::Ordering;
+use std::num::{f64_from_bits_with_nan, f64_to_bits_with_nan};
 
 // A time and a value, as in the Rust. Round trips are about `Stored`, since a float here keeps no payload of a NaN.
-#[derive(Clone, Copy)]
+#[derive(Clone, Copy, Debug)]
 pub struct DataPoint {
     time: u64,
     value: f64,
 }
 
 // A time and the bits of a value: what streams hold.
-#[derive(Clone, Copy)]
+#[derive(Clone, Copy, Debug, PartialEq, Eq)]
 pub struct Stored {
     pub time: u64,
     pub bits: u64,
-}
-
-// How one point stands to another.
-#[derive(Clone, Copy)]
-pub enum Ordering {
-    Less,
-    Equal,
-    Greater,
 }
 
 impl DataPoint {
@@ -49,83 +46,56 @@ impl DataPoint {
         self.value
     }
 
-    // The Rust's `==`: any two NaNs are alike, and so are 0.0 and -0.0.
-    pub fn same(self, other: DataPoint) -> bool
-        ensures { result ≡ same_of self other }
-    {
-        let x = self.value;
-        let y = other.value;
-        if self.time != other.time {
-            return false;
-        }
-        if x == y {
-            return true;
-        }
-        // only a NaN differs from itself
-        if x == x {
-            return false;
-        }
-        y != y
-    }
-
-    // The Rust's order, which looks at the times alone.
+    // The Rust's order, by the times alone, as `by_time` says. No `Ord`: its law `matches_eq` asks that points that stand equal in the order are `==`.
     pub fn cmp(self, other: DataPoint) -> Ordering
         ensures { result ≡ time_order self.time other.time }
     {
-        let x = self.time;
-        let y = other.time;
-        if x < y {
-            return Ordering::Less;
-        }
-        if x == y {
-            return Ordering::Equal;
-        }
-        Ordering::Greater
+        self.time.cmp(&other.time)
     }
+}
 
-    // The point with its value's bits. A NaN, whatever its payload was, is written as the one pattern 0x7ff8000000000000.
-    pub fn to_stored(self) -> Stored
-        ensures { result ≡ to_stored self }
-    {
-        let time = self.time;
-        let x = self.value;
-        if x != x {
-            return Stored {
-                time,
-                bits: 0x7ff8_0000_0000_0000,
-            };
-        }
-        let bits = f64::to_bits(x);
+// The Rust's `==`: any two NaNs are alike, and so are 0.0 and -0.0.
+impl PartialEq for DataPoint {
+    ghost eq = { same_of };
+
+    ghost laws = { partial_equiv_from_equiv same_equiv };
+
+    fn eq(&self, other: &DataPoint) -> bool {
+        let same_time = self.time == other.time;
+        let (x, y) = (self.value, other.value);
+        same_time && (x == y || x.is_nan() && y.is_nan())
+    }
+}
+
+impl Eq for DataPoint {
+    ghost laws = { same_equiv };
+}
+
+// The point with its value's bits. A NaN, whatever its payload was, is written as the one pattern 0x7ff8000000000000.
+impl From<DataPoint> for Stored {
+    ghost from_gives = { λ p s. s ≡ to_stored p };
+
+    fn from(point: DataPoint) -> Stored {
+        let DataPoint { time, value } = point;
+        let bits = f64_to_bits_with_nan(value);
         Stored { time, bits }
     }
 }
 
-impl Stored {
-    // The point with the value that the bits stand for. Any pattern of a NaN gives a NaN.
-    pub fn to_point(self) -> DataPoint
-        ensures { result ≡ to_point self }
-    {
-        let time = self.time;
-        let b = self.bits;
-        // the sign aside, a NaN's pattern lies above that of an infinity
-        if 0x7ff0_0000_0000_0000 < b % 0x8000_0000_0000_0000 {
-            let zero: f64 = 0.0;
-            let value = zero / zero;
-            return DataPoint { time, value };
-        }
-        let value = f64::from_bits(b);
+// The point with the value that the bits stand for. Any pattern of a NaN gives a NaN.
+impl From<Stored> for DataPoint {
+    ghost from_gives = { λ s p. p ≡ to_point s };
+
+    fn from(stored: Stored) -> DataPoint {
+        let Stored { time, bits } = stored;
+        let value = f64_from_bits_with_nan(bits);
         DataPoint { time, value }
     }
 }
 
-// How many points two lists have: as many as the shorter.
+// How many points two lists have: as many as the shorter. Times and values are two lists, as C hands them in (`include/tsz.h`).
 pub fn points_in(times: &[u64], values: &[u64]) -> usize
     ensures { result ≡ min (length times.now) (length values.now) }
 {
-    let a = times.len();
-    let b = values.len();
-    if a < b {
-        return a;
-    }
-    b
+    times.len().min(values.len())
 }
