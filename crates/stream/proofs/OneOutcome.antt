@@ -29,7 +29,7 @@ by_bit One Zero e = cc
 by_bit One One e = refl
 
 -- a result is what is told of it, where its values are
-told : {A : Type 0} (values : A → List ℕ) → Tells A (List ℕ) values → Tells (Result A Refusal) Told (tell values)
+pub told : {A : Type 0} (values : A → List ℕ) → Tells A (List ℕ) values → Tells (Result A Refusal) Told (tell values)
 told values once (Ok x) (Ok y) e = let n : values x ≡ values y = cc in ap Ok (once x y n)
 told values once (Ok x) (Err s) e = cc
 told values once (Err r) (Ok y) e = cc
