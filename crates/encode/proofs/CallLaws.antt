@@ -6,9 +6,12 @@ use Prim.Native.Nat.{ℕ, ◌+◌, ◌-◌, ◌*◌, ◌≤◌, ◌<◌}
 use native.Mathlib.Omega.{arith}
 use borrow.Author.Tests.{ltb-false, eqb-true, le-ltb, lt-ltb, eq-eqb, ne_eqb, not-false}
 use lib.ListN.{length, length-append}
+use Rattle.std.specs.Prelude.{Ok, Err, ⊤}
+use Rattle.std.specs.declared.result.Result.{Result}
 use Rattle.stream.specs.Bits.{bits_of, value_of, bits, bytes_for, replaced}
 use Rattle.stream.specs.Refusals.{number_of, when, or_else}
-use Rattle.stream.specs.Calls.{limit, Told, given, refused, write_of}
+use Rattle.stream.specs.Calls.{limit, Told, given, refused, tell, write_of}
+use Rattle.stream.specs.Fits.{fault_of}
 use Rattle.stream.specs.declared.refusal.Refusal.{Refusal}
 use Rattle.stream.specs.declared.refusal.Refusal.TheVariants.{NoRoom}
 use Rattle.stream.proofs.Numbers.{length_bits_of, bits_of_value}
@@ -19,12 +22,10 @@ use Rattle.layout.specs.Writing.{Point, state, time_fault, start_bits, marker, p
 use Rattle.layout.proofs.Tests.{neither}
 use Rattle.encode.specs.declared.code.Code.{Code}
 use Rattle.encode.specs.declared.code.PointCode.{PointCode}
-use Rattle.encode.specs.declared.std_encoder.Standing.{Standing}
-use Rattle.encode.specs.declared.std_encoder.Standing.TheVariants as stands
 use Rattle.encode.specs.States.{Enc, enc, progress}
-use Rattle.encode.specs.Calls.{Outcome, no_fit, standing, room_fault, point_fault, open_fault, fresh, shut, open_of, after, encode_of, marked, close_of}
+use Rattle.encode.specs.Calls.{Outcome, no_values, tell_encode, no_fit, standing, room_fault, point_fault, open_fault, fresh, shut, open_of, after, encode_of, marked, close_of}
 use Rattle.encode.specs.Promises.{OpenFault, Misfit, StandingFault, PointFault}
-use Rattle.encode.specs.Parts.{fault_of, refused_by, word_of, words, Coded}
+use Rattle.encode.specs.Parts.{word_of, words, Coded}
 use Rattle.encode.proofs.Points.{state_is}
 
 -- ---- 12 and 13
@@ -72,19 +73,23 @@ module _ (c : ℕ) (e : Enc) (n : ℕ) where
     stands = λ h g. rw (g, h);
   }
 
--- what the private test answers
-pub is_clear : (s : Standing) (k : ℕ) → fault_of s ≡ k → s ≡ stands.Clear → 0 ≡ k
-is_clear s k e h = sym (ap fault_of h) ∙ e
+pub not_closed : (e : Enc) (n : ℕ) → 0 ≡ standing 6 e n → e.closed ≡ false
+unfolding standing
+not_closed e n z = not_when _ 12 (omega arith) (none_holds _ _ z).0
 
-pub is_refused : (s : Standing) (k : ℕ) (r : Refusal) → fault_of s ≡ k → s ≡ stands.Refused r → number_of r ≡ k
+-- what the private test answers
+pub is_clear : (s : Result ⊤ Refusal) (k : ℕ) (done : ⊤) → fault_of s ≡ k → s ≡ Ok done → 0 ≡ k
+is_clear s k done e h = sym (ap fault_of h) ∙ e
+
+pub is_refused : (s : Result ⊤ Refusal) (k : ℕ) (r : Refusal) → fault_of s ≡ k → s ≡ Err r → number_of r ≡ k
 is_refused s k r e h = sym (ap fault_of h) ∙ e
 
 -- ---- outcomes
 
--- what is refused leaves the bits as they are
-pub with_bits : (t : Told) (v e : Enc) (r : Refusal) (bs : List Bool) → (t, v) ≡ refused_by e r → ◌≡◌ {A = Outcome} (t, v, bs) (refused (number_of r), e, bs)
-unfolding refused_by
-with_bits t v e r bs h = ap (λ (o : Told × Enc). (o.0, o.1, bs)) h
+-- what is refused is told by its number, and leaves the bits as they are
+pub told_refused : {A : Type 0} (values : A → List ℕ) (a : Result A Refusal) (v e : Enc) (r : Refusal) (bs : List Bool) → (a ≡ Err r) × (v ≡ e)
+    → ◌≡◌ {A = Outcome} (tell values a, v, bs) (refused (number_of r), e, bs)
+told_refused values a v e r bs h = λ i. (tell values (h.0 i), h.1 i, bs)
 
 module _ (c : ℕ) (e : Enc) (n : ℕ) (bs : List Bool) where
   module _ (p : Point) where
@@ -151,22 +156,22 @@ module _ (e : Enc) (n : ℕ) (bs : List Bool) (p : Point) (k : PointCode) (z : 0
   size_is : length (point_bits 6 (progress e) p) ≡ k.head.len + k.digits.len
   size_is = ap length (sym d.1.held) ∙ length_words k
 
-  pub no_room : (t : Told) (v : Enc) → (t, v) ≡ refused_by e NoRoom → 8 * e.len < e.at + (k.head.len + k.digits.len) + 36
-      → (t, v, bs) ≡ encode_of 6 e n bs p
-  no_room t v f h =
-      with_bits t v e NoRoom bs f ∙ encode_refused 6 e n bs p NoRoom (sym ((point_faults 6 e n bs p).no_room (sym z) (sym d.0) (rw size_is h)))
+  pub no_room : (a : Result ⊤ Refusal) (v : Enc) → (a ≡ Err NoRoom) × (v ≡ e) → 8 * e.len < e.at + (k.head.len + k.digits.len) + 36
+      → (tell_encode a, v, bs) ≡ encode_of 6 e n bs p
+  no_room a v f h =
+      told_refused no_values a v e NoRoom bs f ∙ encode_refused 6 e n bs p NoRoom (sym ((point_faults 6 e n bs p).no_room (sym z) (sym d.0) (rw size_is h)))
 
   pub written : (q : ℕ) (m : List Bool) → q ≡ e.at + (k.head.len + k.digits.len) → e.at + (k.head.len + k.digits.len) + 36 ≤ 8 * e.len
       → m ≡ replaced bs e.at (words k)
-      → (given [], enc e.len q (state p.time (p.time - e.time) p.value (window k.leading k.trailing)) false false, m) ≡ encode_of 6 e n bs p
+      → (given [], enc e.len q (state p.time (p.time - e.time) p.value k.window) false e.closed, m) ≡ encode_of 6 e n bs p
   unfolding after
   written q m f h g =
       let place : q ≡ e.at + length (point_bits 6 (progress e) p) = rw size_is f in
-      let kept : state p.time (p.time - e.time) p.value (window k.leading k.trailing) ≡ state_after 6 (progress e) p = rw d.1.window (state_is e p) in
+      let kept : state p.time (p.time - e.time) p.value k.window ≡ state_after 6 (progress e) p = rw d.1.window (state_is e p) in
       let put : m ≡ replaced bs e.at (point_bits 6 (progress e) p) = rw d.1.held at g in
       let done : ◌≡◌ {A = Outcome}
-      (given [], enc e.len q (state p.time (p.time - e.time) p.value (window k.leading k.trailing)) false false, m)
-      (given [], after 6 e p, replaced bs e.at (point_bits 6 (progress e) p)) = λ i. (given [], enc e.len (place i) (kept i) false false, put i) in
+      (given [], enc e.len q (state p.time (p.time - e.time) p.value k.window) false e.closed, m)
+      (given [], after 6 e p, replaced bs e.at (point_bits 6 (progress e) p)) = λ i. (given [], enc e.len (place i) (kept i) false (not_closed e n z i), put i) in
       done ∙ sym (accepted 6 e n bs p ((point_faults 6 e n bs p).none (sym z) (sym d.0) (rw size_is h)))
 
 -- ---- the two ends

@@ -1,7 +1,7 @@
 -- Codes and the layout's words.
 use mathlib.Core.Path.{◌≡◌, refl, sym, ap, ◌∙◌, subst}
 use mathlib.Core.Bool.{Bool, true, false, cond}
-use mathlib.Core.List.{List, ◌∷◌, ◌++◌}
+use mathlib.Core.List.{List, [], ◌∷◌, ◌++◌}
 use Prim.Native.Nat.{ℕ, zero, suc, ◌+◌, ◌*◌, ◌%◌, ◌^◌, ◌≤◌, ◌<◌}
 use native.Mathlib.Nat.{mod-eq_of_lt}
 use native.Mathlib.Numerals.{add-one}
@@ -9,58 +9,55 @@ use native.Mathlib.Omega.{arith}
 use lib.Arith.{digits_lt}
 use lib.Pow.{pow-add, pow_mono}
 use lib.IntN.{ℤ, pos, negsuc}
-use lib.ListN.{drop}
+use lib.ListN.{get_or, drop, drop_of_length-le}
+use lib.Seq.{drop-cons}
 use mir.Syntax.{w64}
 use mir.Val.{SFits, to_z, of_z}
 use mir.Facts.{to_z-of_z}
 use Rattle.stream.specs.Bits.{odd, bits_of}
 use Rattle.stream.proofs.Numbers.{bits_of_join}
 use Rattle.layout.specs.declared.Row.{Row}
-use Rattle.layout.specs.Rows.{row32, rows, row_at, fits, raw, Good}
+use Rattle.layout.specs.Rows.{row7, row9, row12, row32, rows, row_at, fits, raw, Good}
 use Rattle.layout.specs.Writing.{in_range, in_row, row_bits, dod_bits}
-use Rattle.layout.proofs.Table.{drop_at, good_at}
+use Rattle.layout.proofs.Table.{at_any, good_at}
 
 -- ---- rows
 
--- the rows from i on begin with row i
-from : (d : ℤ) (i : ℕ) → i < 4 → row_bits (drop i rows) d ≡ row_bits (row_at i ∷ drop (i + 1) rows) d
-unfolding row_at
-from d i h = ap (λ (l : List Row). row_bits l d) (drop_at rows i row32 h ∙ ap (λ (j : ℕ). row_at i ∷ drop j rows) (sym (add-one i)))
+-- the first rows do not take a dod: it is written by those from i on
+module _ (d : ℤ) (i : ℕ) (z : Row) (s : row_bits rows d ≡ row_bits (drop i rows) d) (h : i < 4) where
+  abbrev here : Row
+  here = get_or rows i z
 
-here : (d : ℤ) (rs : List Row) (r : Row) (v : Bool) → fits r d ≡ v → row_bits (r ∷ rs) d ≡ cond v (in_row r d) (row_bits rs d)
-unfolding row_bits
-here d rs r v e = rw e
+  turn : (v : Bool) → fits here d ≡ v → row_bits rows d ≡ cond v (in_row here d) (row_bits (drop (i + 1) rows) d)
+  unfolding row_bits
+  turn v t = s ∙ ap (λ (l : List Row). row_bits l d) (drop-cons rows i z h) ∙ rw (t, add-one)
 
-pub good_row : (i : ℕ) (r : Row) → r ≡ row_at i → Good r
-good_row i r e = subst Good (sym e) (good_at i)
+  good_here : Good here
+  unfolding row_at
+  good_here = subst Good (at_any rows i row32 z h) (good_at i)
 
--- a signed number is tested as its bits
-module _ (d : ℤ) (f : SFits w64 d) where
-  abbrev machine : ℤ
-  machine = to_z w64 (of_z w64 d)
+  -- row i takes it: it is the first to do so
+  pub row_here : (b : ℤ) → d ≡ b → fits here d ≡ true → (row_bits rows b ≡ in_row here b) × (fits here b ≡ true) × Good here
+  row_here b e t = rw (← e) (turn true t, t, good_here)
 
-  module _ (i : ℕ) (r : Row) (e : r ≡ row_at i) (s : row_bits rows machine ≡ row_bits (drop i rows) machine) where
-    turn : (v : Bool) → i < 4 → fits r machine ≡ v → row_bits rows machine ≡ cond v (in_row r machine) (row_bits (drop (i + 1) rows) machine)
-    turn v h t = s ∙ from machine i h ∙ ap (λ (x : Row). row_bits (x ∷ drop (i + 1) rows) machine) (sym e) ∙ here machine _ r v t
+  -- it does not
+  pub row_next : fits here d ≡ false → row_bits rows d ≡ row_bits (drop (i + 1) rows) d
+  row_next t = turn false t
 
-    -- row i takes it: it is the first to do so
-    pub row_here : i < 4 → fits r machine ≡ true → (row_bits rows d ≡ in_row r d) × (fits r d ≡ true) × Good r
-    row_here h t =
-        let back = to_z-of_z f in
-        (ap (row_bits rows) (sym back) ∙ turn true h t ∙ ap (in_row r) back, ap (fits r) (sym back) ∙ t, good_row i r e)
+-- what is in range is taken by one of them
+some_bits : (b x : Bool) (l r : List Bool) → (r ≡ [] → ⊥) → cond b (x ∷ l) r ≡ [] → ⊥
+some_bits true x l r n e = cc
+some_bits false x l r n e = n e
 
-    -- it does not
-    pub row_next : i < 4 → fits r machine ≡ false → row_bits rows machine ≡ row_bits (drop (i + 1) rows) machine
-    row_next h t = turn false h t
+last_bits : (b x : Bool) (l : List Bool) → b ≡ true → cond b (x ∷ l) [] ≡ [] → ⊥
+last_bits true x l t e = cc
+last_bits false x l t e = cc
 
--- behind the rows that do not take it
-pub row_behind : (d : ℤ) (i j : ℕ) → i ≡ j → row_bits rows d ≡ row_bits (drop i rows) d → row_bits rows d ≡ row_bits (drop j rows) d
-row_behind d i j e s = s ∙ ap (λ (k : ℕ). row_bits (drop k rows) d) e
-
--- the last row takes what is in range
-pub last_takes : (r : Row) (d : ℤ) → SFits w64 d → r ≡ row_at 3 → in_range d ≡ true → fits r (to_z w64 (of_z w64 d)) ≡ true
-unfolding row_at
-last_takes r d f e t = ap (fits r) (to_z-of_z f) ∙ ap (λ (x : Row). fits x d) e ∙ t
+pub one_takes : (d : ℤ) (i : ℕ) → in_range d ≡ true → row_bits rows d ≡ row_bits (drop i rows) d → 4 ≤ i → ⊥
+unfolding row_bits in_row bits_of
+one_takes d i t s h =
+    let e : row_bits rows d ≡ [] = s ∙ ap (λ (l : List Row). row_bits l d) (drop_of_length-le rows h) in
+    some_bits (fits row7 d) _ _ _ (some_bits (fits row9 d) _ _ _ (some_bits (fits row12 d) _ _ _ (last_bits (fits row32 d) _ _ t))) e
 
 pub row_word : (r : Row) (d z : ℤ) (v : ℕ) → v ≡ raw r.width z → z ≡ d → bits_of r.prefix_len r.prefix ++ bits_of r.width v ≡ in_row r d
 unfolding in_row

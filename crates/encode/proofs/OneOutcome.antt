@@ -1,63 +1,56 @@
 -- What the calls state leaves no choice, and what is refused changes nothing.
 use mathlib.Core.Path.{◌≡◌, refl, ap, ◌∙◌}
+use mathlib.Core.List.{List}
+use Prim.Native.Nat.{ℕ}
 use lib.ListN.{length}
-use Rattle.stream.specs.Refusals.{number_of}
+use Rattle.std.specs.Prelude.{⊤}
+use Rattle.std.specs.declared.result.Result.{Result}
 use Rattle.stream.specs.Calls.{Told}
-use Rattle.stream.specs.Promises.{Tells}
+use Rattle.stream.specs.Promises.{AreBytes, Tells}
+use Rattle.stream.specs.declared.refusal.Refusal.{Refusal}
+use Rattle.stream.specs.declared.position.BitPos.{BitPos}
+use Rattle.stream.specs.declared.position.ByteCount.{ByteCount}
 use Rattle.stream.proofs.Bytes.{bits_inj}
-use Rattle.stream.proofs.Outcomes.{by_number, by_some}
+use Rattle.stream.proofs.Outcomes.{by_some}
+use Rattle.stream.proofs.OneOutcome as stream
 use Rattle.encode.specs.declared.std_encoder.StdEncoder.{StdEncoder}
-use Rattle.encode.specs.declared.std_encoder.EncodeAnswer.{EncodeAnswer}
-use Rattle.encode.specs.declared.std_encoder.EncodeAnswer.TheVariants as encode
-use Rattle.encode.specs.declared.std_encoder.CloseAnswer.{CloseAnswer}
-use Rattle.encode.specs.declared.std_encoder.CloseAnswer.TheVariants as close
-use Rattle.encode.specs.declared.code.CodeAnswer.{CodeAnswer}
-use Rattle.encode.specs.declared.code.CodeAnswer.TheVariants as code
+use Rattle.encode.specs.declared.std_encoder.Encoded.{Encoded}
+use Rattle.encode.specs.declared.code.PointCode.{PointCode}
 use Rattle.encode.specs.States.{Enc, view}
-use Rattle.encode.specs.Codes.{tell_code}
-use Rattle.encode.specs.Calls.{Outcome, tell_encode, tell_close, open_fault, standing, point_fault, open_of, encode_of, close_of}
+use Rattle.encode.specs.Codes.{in_code, tell_code}
+use Rattle.encode.specs.Calls.{Outcome, told, no_values, in_use, open_fault, standing, point_fault, open_of, encode_of, close_of}
 use Rattle.encode.specs.Lists.{Packing}
 use Rattle.encode.specs.Promises.{OneOutcome, RefusedNothings}
 
 -- ---- answers
 
-encode_told : Tells EncodeAnswer Told tell_encode
-encode_told encode.Done encode.Done e = refl
-encode_told encode.Done (encode.Refused s) e = cc
-encode_told (encode.Refused r) encode.Done e = cc
-encode_told (encode.Refused r) (encode.Refused s) e = let n : number_of r ≡ number_of s = cc in ap encode.Refused (by_number r s n)
+none_told : Tells ⊤ (List ℕ) no_values
+none_told u v e = refl
 
-close_told : Tells CloseAnswer Told tell_close
-close_told (close.Used p n) (close.Used q m) e =
-    let a : p.0 ≡ q.0 = cc in
-    let b : n.0 ≡ m.0 = cc in
-    λ i. close.Used (record { 0 = a i }) (record { 0 = b i })
-close_told (close.Used p n) (close.Refused s) e = cc
-close_told (close.Refused r) (close.Used q m) e = cc
-close_told (close.Refused r) (close.Refused s) e = let n : number_of r ≡ number_of s = cc in ap close.Refused (by_number r s n)
+close_told : Tells (BitPos × ByteCount) (List ℕ) in_use
+close_told u v e =
+    let a : u.0.0 ≡ v.0.0 = cc in
+    let b : u.1.0 ≡ v.1.0 = cc in
+    λ i. (record { 0 = a i }, record { 0 = b i })
 
-code_told : Tells CodeAnswer Told tell_code
-code_told (code.Code k) (code.Code j) e =
+numbers_told : Tells PointCode (List ℕ) in_code
+numbers_told k j e =
     let a : k.head.bits ≡ j.head.bits = cc in
     let b : k.head.len ≡ j.head.len = cc in
     let d : k.digits.bits ≡ j.digits.bits = cc in
     let f : k.digits.len ≡ j.digits.len = cc in
-    let g : k.leading ≡ j.leading = cc in
-    let h : k.trailing ≡ j.trailing = cc in
-    λ i. code.Code (record { head = record { bits = a i; len = b i }; digits = record { bits = d i; len = f i }; leading = g i; trailing = h i })
-code_told (code.Code k) (code.Refused s) e = cc
-code_told (code.Refused r) (code.Code j) e = cc
-code_told (code.Refused r) (code.Refused s) e = let n : number_of r ≡ number_of s = cc in ap code.Refused (by_number r s n)
+    let g : k.window.lead ≡ j.window.lead = cc in
+    let h : k.window.trail ≡ j.window.trail = cc in
+    λ i. record { head = record { bits = a i; len = b i }; digits = record { bits = d i; len = f i }; window = record { lead = g i; trail = h i } }
+
+code_told : Tells (Result PointCode Refusal) Told tell_code
+code_told = stream.told in_code numbers_told
 
 -- an encoder is its numbers
 by_view : Tells StdEncoder Enc view
 by_view s t e =
     λ i. record {
-      time = (e i).time;
-      delta = (e i).delta;
-      value_bits = (e i).value;
-      leading_zeroes = (e i).window.lead;
-      trailing_zeroes = (e i).window.trail;
+      kept = record { time = (e i).time; delta = (e i).delta; value = (e i).value; window = (e i).window };
       first = (e i).first;
       closed = (e i).closed;
       len = record { 0 = (e i).len };
@@ -66,21 +59,22 @@ by_view s t e =
 
 -- ---- calls
 
+-- where the values of an answer are what is told of them, so are the answer, the encoder and the bytes
+once : {A : Type 0} (values : A → List ℕ) → Tells A (List ℕ) values → (r s : Encoded A) (l m : List ℕ) → AreBytes l → AreBytes m
+    → told values r l ≡ told values s m → (r ≡ s) × (l ≡ m)
+once values by r s l m a b e =
+    let t = stream.told values by r.answer s.answer (ap (λ (o : Outcome). o.0) e) in
+    let v = by_view r.encoder s.encoder (ap (λ (o : Outcome). o.1) e) in
+    (λ i. record { answer = t i; encoder = v i }, bits_inj l m a b (ap (λ (o : Outcome). o.2) e))
+
 pub one_outcome : OneOutcome
 one_outcome = record {
-  encode = λ r s l m a b e.
-      let t = encode_told r.answer s.answer (ap (λ (o : Outcome). o.0) e) in
-      let v = by_view r.encoder s.encoder (ap (λ (o : Outcome). o.1) e) in
-      (λ i. record { answer = t i; encoder = v i }, bits_inj l m a b (ap (λ (o : Outcome). o.2) e));
-  close = λ r s l m a b e.
-      let t = close_told r.answer s.answer (ap (λ (o : Outcome). o.0) e) in
-      let v = by_view r.encoder s.encoder (ap (λ (o : Outcome). o.1) e) in
-      (λ i. record { answer = t i; encoder = v i }, bits_inj l m a b (ap (λ (o : Outcome). o.2) e));
+  encode = once no_values none_told;
+  close = once in_use close_told;
   code = code_told;
   pack = λ r s l m a b e.
-      let t = encode_told r.answer s.answer (ap (λ (o : Packing). o.1.0) e) in
-      let v = by_view r.encoder s.encoder (ap (λ (o : Packing). o.1.1) e) in
-      (λ i. record { accepted = (e i).0; answer = t i; encoder = v i }, bits_inj l m a b (ap (λ (o : Packing). o.1.2) e));
+      let o = once no_values none_told r.last s.last l m a b (ap (λ (o : Packing). o.1) e) in
+      (λ i. record { accepted = (e i).0; last = o.0 i }, o.1);
 }
 
 pub refused_nothing : RefusedNothings

@@ -7,11 +7,11 @@ use native.Mathlib.Numerals.{add-one}
 use native.Mathlib.Omega.{arith}
 use lib.ListN.{length, drop, get_or}
 use lib.Seq.{drop-cons, drop-nil}
+use Rattle.std.specs.Prelude.{Ok, Err, ⊤}
+use Rattle.std.specs.declared.result.Result.{Result}
 use Rattle.stream.specs.declared.refusal.Refusal.{Refusal}
 use Rattle.stream.specs.Calls.{given, refused}
 use Rattle.layout.specs.Writing.{Point, point_of}
-use Rattle.encode.specs.declared.std_encoder.EncodeAnswer.{EncodeAnswer}
-use Rattle.encode.specs.declared.std_encoder.EncodeAnswer.TheVariants as encode
 use Rattle.encode.specs.States.{Enc}
 use Rattle.encode.specs.Calls.{Outcome, tell_encode, encode_of}
 use Rattle.encode.specs.Lists.{pairs, Packing, on_told, packs_of}
@@ -57,7 +57,7 @@ module _ (c i n : ℕ) (s s' : Enc) (bs bs' : List Bool) (p : Point) (ps : List 
   unfolding packs_of on_told
   stops r e q = same_count _ _ _ (omega arith) ∙ (rw (← e) at q)
 
-module _ (ts vs : List ℕ) (i n m : ℕ) (s s' : Enc) (bs bs' : List Bool) (a : EncodeAnswer) (x : Packing)
+module _ (ts vs : List ℕ) (i n m : ℕ) (s s' : Enc) (bs bs' : List Bool) (a : Result ⊤ Refusal) (x : Packing)
     (e : (tell_encode a, s', bs') ≡ encode_of 6 s m bs (point_of (get_or ts i 0) (get_or vs i 0)))
     (q : later i (packs_of 6 s n bs (pairs (drop i ts) (drop i vs))) ≡ x) where
   -- the point offered is the next of the two lists
@@ -68,14 +68,14 @@ module _ (ts vs : List ℕ) (i n m : ℕ) (s s' : Enc) (bs bs' : List Bool) (a :
   outcome : m ≡ n → (tell_encode a, s', bs') ≡ encode_of 6 s n bs (point_of (get_or ts i 0) (get_or vs i 0))
   outcome j = e ∙ ap (λ (k : ℕ). encode_of 6 s k bs (point_of (get_or ts i 0) (get_or vs i 0))) j
 
-  pub accepted : a ≡ encode.Done → i < min (length ts) (length vs) → m ≡ n
+  pub accepted : a ≡ Ok tt → i < min (length ts) (length vs) → m ≡ n
       → later (i + 1) (packs_of 6 s' n bs' (pairs (drop (i + 1) ts) (drop (i + 1) vs))) ≡ x
-  accepted d h j = goes_on 6 i n s s' bs bs' _ _ x (sym (ap (λ (b : EncodeAnswer). (tell_encode b, s', bs')) d) ∙ outcome j) (here h)
+  accepted d h j = goes_on 6 i n s s' bs bs' _ _ x (sym (ap (λ (b : Result ⊤ Refusal). (tell_encode b, s', bs')) d) ∙ outcome j) (here h)
 
-  pub stopped : (r : Refusal) → a ≡ encode.Refused r → i < min (length ts) (length vs) → m ≡ n → (i, (tell_encode a, s', bs')) ≡ x
+  pub stopped : (r : Refusal) → a ≡ Err r → i < min (length ts) (length vs) → m ≡ n → (i, (tell_encode a, s', bs')) ≡ x
   stopped r d h j =
-      ap (λ (b : EncodeAnswer). (i, (tell_encode b, s', bs'))) d
-      ∙ stops 6 i n s s' bs bs' _ _ x _ (sym (ap (λ (b : EncodeAnswer). (tell_encode b, s', bs')) d) ∙ outcome j) (here h)
+      ap (λ (b : Result ⊤ Refusal). (i, (tell_encode b, s', bs'))) d
+      ∙ stops 6 i n s s' bs bs' _ _ x _ (sym (ap (λ (b : Result ⊤ Refusal). (tell_encode b, s', bs')) d) ∙ outcome j) (here h)
 
 -- no point is left
 pub all_taken_lem : (ps : List Point) (i n : ℕ) (s : Enc) (bs : List Bool) (x : Packing) → later i (packs_of 6 s n bs ps) ≡ x → ps ≡ []

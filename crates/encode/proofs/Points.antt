@@ -5,35 +5,36 @@ use mathlib.Core.List.{List, [], ◌∷◌, ◌++◌}
 use Prim.Native.Nat.{ℕ, ◌-◌, ◌^◌, ◌≤◌, ◌<◌}
 use native.Mathlib.Nat.{mod-eq_of_lt, zero-add}
 use native.Mathlib.Omega.{arith}
-use borrow.Author.Tests.{lt-ltb, le-ltb, leb-true, ltb-false}
+use borrow.Author.Tests.{lt-ltb, le-ltb, ltb-false}
 use lib.Bits.{bit_xor}
-use lib.IntN.{ℤ, pos, negsuc, sub_ℕ}
+use lib.IntN.{ℤ, sub_ℕ}
 use lib.ListN.{length, take, drop, length-append}
 use lib.Seq.{take_at, drop_at}
-use lib.Dec.{leb}
 use mir.Syntax.{w64}
-use mir.Val.{SFits, to_z, of_z}
+use mir.Val.{to_z, of_z}
 use mir.Facts.{to_z-of_z}
+use Rattle.std.specs.Prelude.{Ok, Err, Some, None}
+use Rattle.std.specs.Option.{ok_or}
+use Rattle.std.specs.declared.option.Option.{Option}
+use Rattle.std.specs.declared.result.Result.{Result}
 use Rattle.stream.specs.Bits.{bits_of, value_of}
+use Rattle.stream.specs.declared.refusal.Refusal.{Refusal}
 use Rattle.stream.specs.Calls.{Told, given, refused}
 use Rattle.stream.proofs.Numbers.{length_bits_of, value_bits_of, bits_of_join}
 use Rattle.stream.proofs.Outcomes.{by_none, by_some, number_pos}
-use Rattle.layout.specs.Rows.{within}
 use Rattle.layout.specs.declared.Window.{Window}
 use Rattle.layout.specs.Windows.{xor_bits, window_after}
 use Rattle.layout.specs.declared.State.{State}
 use Rattle.layout.specs.Writing.{Point, state, Progress, dod_of, in_range, time_fault, dod_bits, first_bits, later_bits, point_bits, first_state, later_state, state_after}
-use Rattle.layout.proofs.Tests.{by_bool, both, unmet}
+use Rattle.layout.proofs.Tests.{by_bool, unmet}
 use Rattle.encode.specs.declared.code.PointCode.{PointCode}
-use Rattle.encode.specs.declared.code.CodeAnswer.{CodeAnswer}
-use Rattle.encode.specs.declared.code.CodeAnswer.TheVariants as code
-use Rattle.encode.specs.declared.dod.Dod.TheVariants.{In, Out}
 use Rattle.encode.specs.declared.last.Last.{Last}
 use Rattle.encode.specs.States.{Enc, kept, progress_by, progress, last_of, progress_in}
 use Rattle.encode.specs.Codes.{tell_point, tell_code, numbers, xor_digits, digits_in, code_of}
 use Rattle.encode.specs.Promises.{TimeFault}
 use Rattle.encode.specs.Parts.{dod_for, word_of, words, Holds, Coded, Meets}
 use Rattle.encode.proofs.Values.{none}
+use Rattle.encode.proofs.Signs.{range_fits}
 
 -- ---- a code that holds some bits is told as their numbers
 
@@ -67,10 +68,10 @@ module _ (k : PointCode) (bs : List Bool) (n : ℕ) (w : Window) (h : Holds k bs
 
 -- ---- so what meets a point is told as its code
 
-pub meets_told : (g : Progress) (p : Point) (a : CodeAnswer) → Meets g p a → tell_code a ≡ code_of 6 g p
+pub meets_told : (g : Progress) (p : Point) (a : Result PointCode Refusal) → Meets g p a → tell_code a ≡ code_of 6 g p
 unfolding Meets code_of
-meets_told g p (code.Code k) m = coded k _ _ _ m.1 ∙ sym (by_none (time_fault g p.time) _ refused m.0)
-meets_told g p (code.Refused r) m = ap refused m ∙ sym (by_some (time_fault g p.time) _ refused (rw (← m) (number_pos r)))
+meets_told g p (Ok k) m = coded k _ _ _ m.1 ∙ sym (by_none (time_fault g p.time) _ refused m.0)
+meets_told g p (Err r) m = ap refused m ∙ sym (by_some (time_fault g p.time) _ refused (rw (← m) (number_pos r)))
 
 -- ---- the faults of a time
 
@@ -85,19 +86,16 @@ module _ (s : State) (t : ℕ) where
     dod_taken = λ h g. rw (le-ltb t s.time h, g);
   }
 
--- the same where the flag is a state's own
-module _ (f : Bool) (s : State) (t : ℕ) where
-  by_flag : (v : Bool) → f ≡ v → time_fault (progress_by v s) t ≡ time_fault (progress_by f s) t
-  by_flag v e = ap (λ (b : Bool). time_fault (progress_by b s) t) (sym e)
+-- the same as a refusal's number
+module _ (s : State) (t : ℕ) where
+  pub falls : (first : Bool) → t < s.time → 2 ≡ time_fault (progress_by first s) t
+  falls first h = sym ((time_faults s t).time_falls first h)
 
-  pub falls : t < s.time → 2 ≡ time_fault (progress_by f s) t
-  falls h = sym ((time_faults s t).time_falls f h)
+  pub first_far : s.time ≤ t → 16383 < t - s.time → 3 ≡ time_fault (progress_by true s) t
+  first_far h g = sym ((time_faults s t).first_delta h g)
 
-  pub first_far : f ≡ true → s.time ≤ t → 16383 < t - s.time → 3 ≡ time_fault (progress_by f s) t
-  first_far e h g = sym ((time_faults s t).first_delta h g) ∙ by_flag true e
-
-  pub later_out : f ≡ false → s.time ≤ t → in_range (dod_of s t) ≡ false → 4 ≡ time_fault (progress_by f s) t
-  later_out e h g = sym ((time_faults s t).dod_range h g) ∙ by_flag false e
+  pub later_out : s.time ≤ t → in_range (dod_of s t) ≡ false → 4 ≡ time_fault (progress_by false s) t
+  later_out h g = sym ((time_faults s t).dod_range h g)
 
 -- ---- a first point
 
@@ -107,9 +105,9 @@ first_word d h = ap (bits_of 15) (sym (zero-add d)) ∙ bits_of_join 1 14 0 d (o
 
 abbrev first_code : State → Point → PointCode
 first_code s p =
-    record { head = record { bits = p.time - s.time; len = 15 }; digits = record { bits = p.value; len = 64 }; leading = s.window.lead; trailing = s.window.trail }
+    record { head = record { bits = p.time - s.time; len = 15 }; digits = record { bits = p.value; len = 64 }; window = s.window }
 
-module _ (f : Bool) (s : State) (p : Point) where
+module _ (s : State) (p : Point) where
   first_holds : p.value < 2 ^ 64 → p.time - s.time ≤ 16383
       → Holds (first_code s p) (point_bits 6 (progress_by true s) p) (digits_in 6 (progress_by true s) p) (state_after 6 (progress_by true s) p).window
   unfolding words word_of progress_by point_bits first_bits digits_in state_after first_state
@@ -121,33 +119,37 @@ module _ (f : Bool) (s : State) (p : Point) where
     window = refl;
   }
 
-  pub first_coded : f ≡ true → s.time ≤ p.time → p.value < 2 ^ 64 → p.time - s.time ≤ 16383 → Coded (progress_by f s) p (first_code s p)
-  first_coded e h b g = rw e (sym ((time_faults s p.time).first_taken h g), first_holds b g)
+  pub first_coded : s.time ≤ p.time → p.value < 2 ^ 64 → p.time - s.time ≤ 16383 → Coded (progress_by true s) p (first_code s p)
+  first_coded h b g = (sym ((time_faults s p.time).first_taken h g), first_holds b g)
 
 -- ---- a later point
 
+-- what `ok_or` makes of a dod
+pub ok_is : (o : Option ℤ) (r : Refusal) (z : ℤ) → ok_or o r ≡ Ok z → Some z ≡ o
+ok_is None r z e = cc
+ok_is (Some y) r z e = cc
+
+pub err_is : (o : Option ℤ) (r s : Refusal) → ok_or o r ≡ Err s → (o ≡ None) × (s ≡ r)
+err_is None r s e = (refl, cc)
+err_is (Some y) r s e = (cc, cc)
+
 -- a dod, if it is in range
-out_is : (b : Bool) (d : ℤ) → Out ≡ cond b (In d) Out → b ≡ false
-out_is true d e = cc
-out_is false d e = refl
+none_is : (b : Bool) (d : ℤ) → None ≡ cond b (Some d) None → b ≡ false
+none_is true d e = cc
+none_is false d e = refl
 
-in_is : (b : Bool) (d z : ℤ) → In z ≡ cond b (In d) Out → (b ≡ true) × (z ≡ d)
-in_is true d z e = (refl, cc)
-in_is false d z e = (cc, cc)
+some_is : (b : Bool) (d z : ℤ) → Some z ≡ cond b (Some d) None → (b ≡ true) × (z ≡ d)
+some_is true d z e = (refl, cc)
+some_is false d z e = (cc, cc)
 
-range_fits : (z : ℤ) → in_range z ≡ true → SFits w64 z
-unfolding within
-range_fits (pos a) t = record { sfits = omega (arith, leb-true a 2147483648 (both true (leb a 2147483648) t).1) }
-range_fits (negsuc a) t = record { sfits = omega (arith, leb-true a 2147483646 (both (leb a 2147483646) true t).0) }
-
-pub dod_out : (delta previous : ℕ) → Out ≡ dod_for delta previous → in_range (sub_ℕ delta previous) ≡ false
+pub dod_out : (delta previous : ℕ) → None ≡ dod_for delta previous → in_range (sub_ℕ delta previous) ≡ false
 unfolding dod_for
-dod_out delta previous o = out_is _ _ o
+dod_out delta previous o = none_is _ _ o
 
-module _ (delta previous : ℕ) (z : ℤ) (e : In z ≡ dod_for delta previous) where
+module _ (delta previous : ℕ) (z : ℤ) (e : Some z ≡ dod_for delta previous) where
   is_in : (in_range (sub_ℕ delta previous) ≡ true) × (z ≡ sub_ℕ delta previous)
   unfolding dod_for
-  is_in = in_is _ _ _ e
+  is_in = some_is _ _ _ e
 
   -- its bits are those of the number
   machine_is : to_z w64 (of_z w64 z) ≡ sub_ℕ delta previous
@@ -156,15 +158,14 @@ module _ (delta previous : ℕ) (z : ℤ) (e : In z ≡ dod_for delta previous) 
   pub machine_in : in_range (to_z w64 (of_z w64 z)) ≡ true
   machine_in = ap in_range machine_is ∙ is_in.0
 
-module _ (f : Bool) (s : State) (p : Point) where
-  pub later_coded : (k : PointCode) (time : List Bool) (z : ℤ) → f ≡ false → s.time ≤ p.time → In z ≡ dod_for (p.time - s.time) s.delta
-      → time ≡ dod_bits (to_z w64 (of_z w64 z))
-      → Holds k (time ++ xor_bits 6 s.window (bit_xor p.value s.value)) (xor_digits 6 s.window (bit_xor p.value s.value)) (window_after 6 s.window (bit_xor p.value s.value))
-      → Coded (progress_by f s) p k
-  unfolding progress_by point_bits later_bits digits_in state_after later_state
-  later_coded k time z e h i m o =
-      let d : time ≡ dod_bits (dod_of s p.time) = m ∙ ap dod_bits (machine_is _ _ z i) in
-      rw e (sym ((time_faults s p.time).dod_taken h (is_in _ _ z i).0), rw d at o)
+pub later_coded : (s : State) (p : Point) (k : PointCode) (time : List Bool) (z : ℤ) → s.time ≤ p.time → Some z ≡ dod_for (p.time - s.time) s.delta
+    → time ≡ dod_bits (to_z w64 (of_z w64 z))
+    → Holds k (time ++ xor_bits 6 s.window (bit_xor p.value s.value)) (xor_digits 6 s.window (bit_xor p.value s.value)) (window_after 6 s.window (bit_xor p.value s.value))
+    → Coded (progress_by false s) p k
+unfolding progress_by point_bits later_bits digits_in state_after later_state
+later_coded s p k time z h i m o =
+    let d : time ≡ dod_bits (dod_of s p.time) = m ∙ ap dod_bits (machine_is _ _ z i) in
+    (sym ((time_faults s p.time).dod_taken h (is_in _ _ z i).0), rw d at o)
 
 -- ---- a point whose time is accepted
 
@@ -190,5 +191,5 @@ module _ (e : Enc) (k : Last) (h : k ≡ last_of e) (p : Point) where
   last_told t f = f ∙ ap (λ (x : Last). code_of 6 (progress_in x) p) h
 
   -- the answer in its case
-  pub last_meets : (a b : CodeAnswer) → Meets (progress_in k) p a → a ≡ b → Meets (progress e) p b
-  last_meets a b m f = subst (λ (x : CodeAnswer). Meets (progress e) p x) f (subst (λ (x : Last). Meets (progress_in x) p a) h m)
+  pub last_meets : (a b : Result PointCode Refusal) → Meets (progress_in k) p a → a ≡ b → Meets (progress e) p b
+  last_meets a b m f = subst (λ (x : Result PointCode Refusal). Meets (progress e) p x) f (subst (λ (x : Last). Meets (progress_in x) p a) h m)

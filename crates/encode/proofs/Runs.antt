@@ -9,34 +9,27 @@ use borrow.Author.Tests.{le-ltb}
 use lib.Bits.{xor_self}
 use lib.IntN.{pos, sub_ℕ}
 use lib.ListN.{length, drop, get_or}
+use Rattle.std.specs.Prelude.{Ok, Err}
 use Rattle.stream.specs.Bits.{odd, bits_of, bits, replaced}
 use Rattle.stream.specs.Calls.{given, refused}
 use Rattle.stream.specs.Refusals.{number_of}
 use Rattle.stream.specs.declared.refusal.Refusal.{Refusal}
 use Rattle.stream.proofs.Numbers.{length_bits_of, bits_of_join}
-use Rattle.stream.proofs.Outcomes.{none_holds, not_when}
 use Rattle.stream.proofs.Bytes.{length_bits}
 use Rattle.stream.proofs.Writes.{writes_leave}
 use Rattle.layout.specs.Rows.{within}
 use Rattle.layout.specs.declared.Window.{Window}
 use Rattle.layout.specs.Windows.{xor_bits, window_after}
 use Rattle.layout.specs.Writing.{Point, point_of, state, time_fault, dod_bits, later_bits, point_bits, later_state, state_after}
-use Rattle.encode.specs.declared.std_encoder.EncodeAnswer.TheVariants as encode
-use Rattle.encode.specs.declared.std_encoder.Encoded.{Encoded}
-use Rattle.encode.specs.declared.pack.Packed.{Packed}
 use Rattle.encode.specs.States.{Enc, enc, kept, progress_by, progress}
-use Rattle.encode.specs.Calls.{Outcome, told_encoded, standing, after, encode_of}
-use Rattle.encode.specs.Lists.{pairs, Packing, told_packed, packs_of}
-use Rattle.encode.specs.Parts.{ahead, zeroed, Repeats, counted, all_taken}
-use Rattle.encode.proofs.CallLaws.{stands_as, misfits, standing_faults, point_faults, accepted, refused_standing}
+use Rattle.encode.specs.Calls.{Outcome, standing, after, encode_of}
+use Rattle.encode.specs.Lists.{pairs, Packing, packs_of}
+use Rattle.encode.specs.Parts.{ahead, zeroed, Repeats, all_taken}
+use Rattle.encode.proofs.CallLaws.{not_closed, stands_as, misfits, standing_faults, point_faults, accepted, refused_standing}
 use Rattle.encode.proofs.Packs.{later, none_before, pairs_out, stopped, all_taken_lem}
 use Rattle.encode.proofs.Packs as packs
 
 -- ---- states that stand
-
-not_closed : (e : Enc) (n : ℕ) → 0 ≡ standing 6 e n → e.closed ≡ false
-unfolding standing
-not_closed e n z = not_when _ 12 (omega arith) (none_holds _ _ z).0
 
 -- further on too, while there is room for the marker
 pub ahead_stands : (t z n : ℕ) (e : Enc) → 0 ≡ standing 6 e n → e.at + z + 36 ≤ 8 * e.len → 0 ≡ standing 6 (ahead t z e) n
@@ -145,15 +138,10 @@ module _ (v e : Enc) (t z n m : ℕ) (a : v ≡ ahead t z e) where
 -- ---- turns of the loop
 
 -- no zeros wait
-pub none_wait : (e : Enc) (n i : ℕ) (bs : List Bool) (ps : List Point) (x : Packing) → later i (packs_of 6 e n bs ps) ≡ x
-    → later i (packs_of 6 (ahead e.time 0 e) n (zeroed bs e.at 0) ps) ≡ x
-none_wait e n i bs ps x q =
-    ap₂ (λ (s : Enc) (b : List Bool). later i (packs_of 6 s n b ps)) (ahead_none e) (zeroed_none bs e.at) ∙ q
-
--- at first
-pub at_first : (e : Enc) (n : ℕ) (bs : List Bool) (ps : List Point)
-    → later 0 (packs_of 6 (ahead e.time 0 e) n (zeroed bs e.at 0) ps) ≡ packs_of 6 e n bs ps
-at_first e n bs ps = none_wait e n 0 bs ps _ (none_before _)
+pub none_wait : (e : Enc) (t z n i : ℕ) (bs : List Bool) (ps : List Point) (x : Packing) → t ≡ e.time → z ≡ 0 → later i (packs_of 6 e n bs ps) ≡ x
+    → later i (packs_of 6 (ahead t z e) n (zeroed bs e.at z) ps) ≡ x
+none_wait e t z n i bs ps x a b q =
+    rw (a, b) (ap₂ (λ (s : Enc) (l : List Bool). later i (packs_of 6 s n l ps)) (ahead_none e) (zeroed_none bs e.at) ∙ q)
 
 -- a point's zeros wait too
 pub two_wait : (ts vs : List ℕ) (i n : ℕ) (e : Enc) (bs : List Bool) (t z : ℕ) (x : Packing)
@@ -162,7 +150,7 @@ pub two_wait : (ts vs : List ℕ) (i n : ℕ) (e : Enc) (bs : List Bool) (t z : 
     → i < min (length ts) (length vs)
     → later (i + 1) (packs_of 6 (ahead (get_or ts i 0) (z + 2) e) n (zeroed bs e.at (z + 2)) (pairs (drop (i + 1) ts) (drop (i + 1) vs))) ≡ x
 two_wait ts vs i n e bs t z x q r h l room k =
-    packs.accepted ts vs i n n _ _ _ _ encode.Done x (repeat_taken e n bs t z (point_of (get_or ts i 0) (get_or vs i 0)) r h l room) q refl k refl
+    packs.accepted ts vs i n n _ _ _ _ (Ok tt) x (repeat_taken e n bs t z (point_of (get_or ts i 0) (get_or vs i 0)) r h l room) q refl k refl
 
 -- the zeros are written
 pub caught : (i : ℕ) (s s' : Enc) (bs bs' : List Bool) → s ≡ s' → bs ≡ bs' → (i, (given [], s, bs)) ≡ all_taken i s' bs'
@@ -172,11 +160,6 @@ caught i s s' bs bs' a b = ap₂ (λ (v : Enc) (l : List Bool). (i, (given [], v
 pub at_last : (ps : List Point) (i n : ℕ) (s : Enc) (bs : List Bool) (k x : Packing) → k ≡ all_taken i s bs → later i (packs_of 6 s n bs ps) ≡ x → ps ≡ [] → k ≡ x
 unfolding all_taken
 at_last ps i n s bs k x e q z = e ∙ all_taken_lem ps i n s bs x q z
-
--- a refusal is handed back
-pub handed : (k : Packed) (i : ℕ) (r : Encoded) (l : List ℕ) (x : Packing) → k ≡ counted i r → (i, told_encoded r l) ≡ x → told_packed k l ≡ x
-unfolding counted
-handed k i r l x e q = ap (λ (o : Packed). told_packed o l) e ∙ q
 
 -- ---- before the loop
 
@@ -188,4 +171,4 @@ module _ (ts vs : List ℕ) (e : Enc) (n : ℕ) (bs : List Bool) where
   -- 12 or 13
   pub none_offered : (r : Refusal) → number_of r ≡ standing 6 e n → 0 < min (length ts) (length vs) → (0, (refused (number_of r), e, bs)) ≡ packs_of 6 e n bs (pairs ts vs)
   none_offered r h k =
-      stopped ts vs 0 n n e e bs bs (encode.Refused r) _ (refused_standing 6 e n bs (point_of (get_or ts 0 0) (get_or vs 0 0)) r h) (none_before _) r refl k refl
+      stopped ts vs 0 n n e e bs bs (Err r) _ (refused_standing 6 e n bs (point_of (get_or ts 0 0) (get_or vs 0 0)) r h) (none_before _) r refl k refl

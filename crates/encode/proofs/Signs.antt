@@ -1,108 +1,71 @@
--- Signed numbers between their bits and their values: what the machine's `as` and `-` give at numbers below 2^63, and a dod by them.
-use mathlib.Core.Path.{◌≡◌, sym, ap, ap₂, ◌∙◌, subst}
-use mathlib.Core.Bool.{true, false}
-use Prim.Native.Nat.{ℕ, zero, suc, ◌-◌, ◌^◌, ◌<◌, ◌≤◌}
+-- Signed numbers between their bits and their values: a difference made in 128 bits, and the field of a dod.
+use mathlib.Core.Path.{◌≡◌, refl, ap, ◌∙◌}
+use mathlib.Core.Bool.{Bool, true, false, cond}
+use Prim.Native.Nat.{ℕ, zero, suc, ◌+◌, ◌-◌, ◌%◌, ◌^◌, ◌<◌, ◌≤◌}
+use native.Mathlib.Nat.{mod-eq_of_lt}
 use native.Mathlib.Omega.{arith}
-use lib.IntN.{ℤ, pos, negsuc, nat_abs, ◌-ℤ◌, +ℤ_idl}
-use lib.Signed.{le_z, lt_z, non_neg, mag}
-use lib.Dec.{T}
-use lib.Pow.{pow_mono}
-use mir.Syntax.{w64}
-use mir.Val.{SFits, Fits, to_z, of_z}
-use mir.Facts.{to_z-of_z}
-use borrow.Author.Tests.{lt-ltb, le-ltb, le-leb, lt-leb, ltb-true}
+use lib.IntN.{ℤ, pos, negsuc, nat_abs, ◌-ℤ◌, sub_ℕ}
+use lib.Signed.{le_z, mag}
+use lib.Dec.{ltb, leb}
+use lib.Pow.{not_mod}
+use mir.Syntax.{w64, w128}
+use mir.Val.{SFits, to_z, of_z}
+use mir.Facts.{to_z-of_z, to_z_pos}
+use borrow.Author.Tests.{le-ltb, leb-true}
+use Rattle.std.specs.Prelude.{Some, None}
 use Rattle.layout.specs.Rows.{within, raw}
-use Rattle.encode.specs.declared.dod.Dod.TheVariants.{In, Out}
+use Rattle.layout.specs.Writing.{in_range}
+use Rattle.layout.proofs.Tests.{by_bool, both, and_never}
 use Rattle.encode.specs.Parts.{dod_for}
 
--- ---- a difference of two numbers, made a signed one
+-- ---- a difference of two numbers
 
-to_z_low : (n : ℕ) → n < 2 ^ 63 → to_z w64 n ≡ pos n
-to_z_low n h = rw (lt-ltb n (2 ^ 63) h)
+sub_is : (d p : ℕ) → (pos d -ℤ pos p) ≡ sub_ℕ d p
+sub_is d zero = rw (le-ltb d 0 (omega arith)) (ap pos (omega arith))
+sub_is d (suc p) = refl
 
-minus : (n : ℕ) → 0 < n → n < 2 ^ 63 → (pos 0 -ℤ to_z w64 n) ≡ negsuc (n - 1)
-minus zero h k = absurd (omega arith)
-minus (suc m) h k = ap (λ (z : ℤ). pos 0 -ℤ z) (to_z_low (suc m) k) ∙ +ℤ_idl (negsuc m) ∙ ap negsuc (omega arith)
+sub_fits : (d p : ℕ) → d < 2 ^ 64 → p < 2 ^ 64 → SFits w128 (sub_ℕ d p)
+sub_fits d p h k =
+    record { sfits = by_bool (λ (b : Bool). mag (cond b (negsuc (p - suc d)) (pos (d - p))) < 2 ^ 127) (ltb d p) (λ t. omega arith) (λ t. omega arith) }
 
-pub minus_fits : (n : ℕ) → 0 < n → n < 2 ^ 63 → SFits w64 (pos 0 -ℤ to_z w64 n)
-minus_fits n h k = subst (SFits w64) (sym (minus n h k)) (record { sfits = omega arith })
+wide : (n : ℕ) (z : ℤ) → z ≡ pos n → n < 2 ^ 64 → to_z w128 (of_z w128 z) ≡ pos n
+wide n z e h = rw e (to_z_pos w128 (omega arith))
 
-minus_is : (n : ℕ) → 0 < n → n < 2 ^ 63 → to_z w64 (of_z w64 (pos 0 -ℤ to_z w64 n)) ≡ negsuc (n - 1)
-minus_is n h k = to_z-of_z (minus_fits n h k) ∙ minus n h k
+module _ (d p : ℕ) (a b : ℤ) (e : a ≡ pos d) (f : b ≡ pos p) (h : d < 2 ^ 64) (k : p < 2 ^ 64) where
+  difference : (to_z w128 (of_z w128 a) -ℤ to_z w128 (of_z w128 b)) ≡ sub_ℕ d p
+  difference = rw (wide d a e h, wide p b f k) (sub_is d p)
 
-module _ (d p : ℕ) where
-  pub dod_up : p ≤ d → d - p ≤ 2147483648 → In (to_z w64 (d - p)) ≡ dod_for d p
+  pub machine_sub : to_z w128 (of_z w128 (to_z w128 (of_z w128 a) -ℤ to_z w128 (of_z w128 b))) ≡ sub_ℕ d p
+  machine_sub = rw difference (to_z-of_z (sub_fits d p h k))
+
+-- ---- a dod, if it is in range
+
+pub range_fits : (z : ℤ) → in_range z ≡ true → SFits w64 z
+unfolding within
+range_fits (pos a) t = record { sfits = omega (arith, leb-true a 2147483648 (both true (leb a 2147483648) t).1) }
+range_fits (negsuc a) t = record { sfits = omega (arith, leb-true a 2147483646 (both (leb a 2147483646) true t).0) }
+
+module _ (d p : ℕ) (z : ℤ) (e : z ≡ sub_ℕ d p) where
+  pub dod_taken : le_z (negsuc 2147483646) z ≡ true → le_z z (pos 2147483648) ≡ true → Some (to_z w64 (of_z w64 z)) ≡ dod_for d p
   unfolding dod_for within
-  dod_up h k = rw (to_z_low (d - p) (omega arith), le-ltb d p h, le-leb (d - p) 2147483648 k)
+  dod_taken f g =
+      let t : in_range z ≡ true = rw (f, g) in
+      rw (to_z-of_z (range_fits z t), ← e, t)
 
-  pub dod_up_out : p ≤ d → 2147483648 < d - p → Out ≡ dod_for d p
+  pub dod_low : le_z (negsuc 2147483646) z ≡ false → None ≡ dod_for d p
   unfolding dod_for within
-  dod_up_out h k = rw (le-ltb d p h, lt-leb (d - p) 2147483648 k)
+  dod_low f = rw (← e, f)
 
-  pub dod_down : d < p → p - d ≤ 2147483647 → In (to_z w64 (of_z w64 (pos 0 -ℤ to_z w64 (p - d)))) ≡ dod_for d p
+  pub dod_high : le_z z (pos 2147483648) ≡ false → None ≡ dod_for d p
   unfolding dod_for within
-  dod_down h k =
-      let e : p - d - 1 ≡ p - suc d = omega arith in
-      rw (minus_is (p - d) (omega arith) (omega arith), lt-ltb d p h, le-leb (p - suc d) 2147483646 (omega arith), e)
-
-  pub dod_down_out : d < p → 2147483647 < p - d → Out ≡ dod_for d p
-  unfolding dod_for within
-  dod_down_out h k = rw (lt-ltb d p h, lt-leb (p - suc d) 2147483646 (omega arith))
-
--- ---- the magnitude
-
-test_is : (d : ℤ) → SFits w64 d → le_z (pos 0) (to_z w64 (of_z w64 d)) ≡ le_z (pos 0) d
-test_is d f = rw (to_z-of_z f)
-
-up_of : (d : ℤ) → mag d < 2 ^ 63 → le_z (pos 0) d ≡ true → T (non_neg d) × Fits w64 (nat_abs d)
-up_of (pos n) h e = (tt, record { fits = omega arith })
-up_of (negsuc n) h e = absurd (let z : ◌≡◌ {A = ℕ} 0 1 = cc in omega arith)
-
-pub cast_up : (d : ℤ) → SFits w64 d → le_z (pos 0) (to_z w64 (of_z w64 d)) ≡ true → T (non_neg (to_z w64 (of_z w64 d))) × Fits w64 (nat_abs (to_z w64 (of_z w64 d)))
-cast_up d f e = subst (λ (z : ℤ). T (non_neg z) × Fits w64 (nat_abs z)) (sym (to_z-of_z f)) (up_of d f.sfits (sym (test_is d f) ∙ e))
-
--- the negative of a negative number
-down_of : (d : ℤ) → nat_abs d < 2 ^ 63 → le_z (pos 0) d ≡ false → (pos 0 -ℤ d) ≡ pos (nat_abs d)
-down_of (pos n) h e = let z : true ≡ false = (sym (le-leb 0 n (omega arith)) ∙ e) in cc
-down_of (negsuc n) h e = ap pos (omega arith)
-
-module _ (d : ℤ) (f : SFits w64 d) (h : nat_abs d < 2 ^ 63) (e : le_z (pos 0) (to_z w64 (of_z w64 d)) ≡ false) where
-  down_is : (pos 0 -ℤ to_z w64 (of_z w64 d)) ≡ pos (nat_abs d)
-  down_is = ap (λ (z : ℤ). pos 0 -ℤ z) (to_z-of_z f) ∙ down_of d h (sym (test_is d f) ∙ e)
-
-  pub down_fits : SFits w64 (pos 0 -ℤ to_z w64 (of_z w64 d))
-  down_fits = subst (SFits w64) (sym down_is) (record { sfits = h })
-
-  pub down_back : to_z w64 (of_z w64 (pos 0 -ℤ to_z w64 (of_z w64 d))) ≡ pos (nat_abs d)
-  down_back = to_z-of_z down_fits ∙ down_is
-
-  pub cast_down : T (non_neg (to_z w64 (of_z w64 (pos 0 -ℤ to_z w64 (of_z w64 d))))) × Fits w64 (nat_abs (to_z w64 (of_z w64 (pos 0 -ℤ to_z w64 (of_z w64 d)))))
-  cast_down = subst (λ (z : ℤ). T (non_neg z) × Fits w64 (nat_abs z)) (sym down_back) (tt, record { fits = omega arith })
+  dod_high f = rw (← e, and_never _ _ f)
 
 -- ---- the field of a dod
 
-pub narrow : (w n : ℕ) → w ≤ 32 → n ≤ 2 ^ w → n < 2 ^ 63
-narrow w n h k = omega (arith, pow_mono h)
-
--- of a negative number, and of any other
-pub field_down : (m r w : ℕ) (d : ℤ) → m ≡ nat_abs d → r ≡ 2 ^ w → lt_z d (pos 0) ≡ true → r - m ≡ raw w d
+pub field_is : (n : ℕ) (d : ℤ) → n ≤ 32 → nat_abs d ≤ 2 ^ n → raw n d < 2 ^ n → of_z w64 d % 2 ^ n ≡ raw n d
 unfolding raw
-field_down m r w (pos n) e f t = absurd (omega (arith, ltb-true n 0 t))
-field_down m r w (negsuc n) e f t = rw (e, f)
-
-pub field_up : (m w : ℕ) (d : ℤ) → m ≡ nat_abs d → lt_z d (pos 0) ≡ false → m ≡ raw w d
-unfolding raw
-field_up m w (pos n) e t = e
-field_up m w (negsuc n) e t = absurd (let z : ◌≡◌ {A = ℕ} 0 1 = cc in omega arith)
-
--- ---- a signed argument reaches a callee's clauses through its bits
-
-pub abs_back : (d : ℤ) → SFits w64 d → nat_abs (to_z w64 (of_z w64 d)) ≡ nat_abs d
-abs_back d f = ap nat_abs (to_z-of_z f)
-
-pub neg_back : (d : ℤ) → SFits w64 d → lt_z (to_z w64 (of_z w64 d)) (pos 0) ≡ lt_z d (pos 0)
-neg_back d f = ap (λ (z : ℤ). lt_z z (pos 0)) (to_z-of_z f)
-
--- what the machine compares are the numbers themselves
-pub le_is : (a b : ℤ) → SFits w64 a → SFits w64 b → le_z (to_z w64 (of_z w64 a)) (to_z w64 (of_z w64 b)) ≡ le_z a b
-le_is a b f g = ap₂ le_z (to_z-of_z f) (to_z-of_z g)
+field_is n (pos a) h k b = mod-eq_of_lt b
+field_is n (negsuc a) h k b =
+    let e : 64 - n + n ≡ 64 = omega arith in
+    let f : 2 ^ 64 - suc a ≡ 2 ^ (64 - n + n) - 1 - a = rw e (omega arith) in
+    ap (λ (x : ℕ). x % 2 ^ n) f ∙ not_mod (64 - n) n (omega arith) ∙ omega arith

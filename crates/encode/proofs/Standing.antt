@@ -1,5 +1,5 @@
 -- An accepted call hands back a state that stands.
-use mathlib.Core.Path.{◌≡◌, refl, sym, ap, ◌∙◌, subst}
+use mathlib.Core.Path.{◌≡◌, refl, sym, ◌∙◌, subst}
 use mathlib.Core.Bool.{Bool, true, false, cond}
 use mathlib.Core.List.{List}
 use Prim.Native.Nat.{ℕ, zero, suc, ◌+◌, ◌*◌, ◌^◌, ◌≤◌, ◌<◌}
@@ -8,8 +8,7 @@ use native.Mathlib.Omega.{arith}
 use borrow.Author.Tests.{ltb-false}
 use lib.Bits.{bit_xor, xor_lt}
 use lib.ListN.{length}
-use Rattle.stream.specs.Calls.{limit, Told}
-use Rattle.stream.specs.declared.refusal.Refusal.{Refusal}
+use Rattle.stream.specs.Calls.{limit}
 use Rattle.stream.proofs.Outcomes.{either, none_holds, not_when, by_none, by_some}
 use Rattle.layout.specs.declared.Window.{Window}
 use Rattle.layout.specs.Windows.{encoder_window, bad_window, reuses, tight, window_after}
@@ -19,7 +18,6 @@ use Rattle.layout.proofs.Xors.{zeros_lt}
 use Rattle.layout.proofs.Zeros.{bad_windows}
 use Rattle.encode.specs.States.{Enc, kept, progress_by, progress}
 use Rattle.encode.specs.Calls.{Outcome, refusing, open_fault, standing, room_fault, point_fault, fresh, after, encode_of}
-use Rattle.encode.specs.Parts.{refused_by}
 use Rattle.encode.specs.Promises.{StandsOn}
 use Rattle.encode.proofs.CallLaws.{misfits, standing_faults, stands_as}
 
@@ -78,9 +76,8 @@ module _ (c : ℕ) where
 -- ---- what an offer hands back, by its outcome
 
 module _ (e : Enc) (n : ℕ) (z : 0 ≡ standing 6 e n) where
-  pub refused_stands : (t : Told) (v : Enc) (r : Refusal) → (t, v) ≡ refused_by e r → 0 ≡ standing 6 v n
-  unfolding refused_by
-  refused_stands t v r h = subst (λ (x : Enc). 0 ≡ standing 6 x n) (sym (ap (λ (o : Told × Enc). o.1) h)) z
+  pub refused_stands : (v : Enc) → v ≡ e → 0 ≡ standing 6 v n
+  refused_stands v h = rw h z
 
   pub told_stands : (bs : List Bool) (p : Point) (o : Outcome) → o ≡ encode_of 6 e n bs p → e.value < 2 ^ 64 → p.value < 2 ^ 64
       → (o ≡ encode_of 6 e n bs p) × (0 ≡ standing 6 o.1 n)

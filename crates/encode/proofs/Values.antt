@@ -1,5 +1,5 @@
 -- The code of a xor, and the layout's words.
-use mathlib.Core.Path.{◌≡◌, refl, sym, ap, ◌∙◌}
+use mathlib.Core.Path.{◌≡◌, refl, ap, ◌∙◌}
 use mathlib.Core.Bool.{Bool, true, false, cond, ◌&&◌}
 use mathlib.Core.List.{List, [], ◌∷◌, ◌++◌, append_assoc, append-nil}
 use Prim.Native.Nat.{ℕ, zero, suc, ◌+◌, ◌-◌, ◌/◌, ◌^◌, ◌<◌}
@@ -10,7 +10,7 @@ use lib.Count.{count_leading_zeros, count_trailing_zeros}
 use borrow.Author.Tests.{le-leb}
 use Rattle.stream.specs.Bits.{odd, bits_of}
 use Rattle.layout.specs.declared.Window.{Window}
-use Rattle.layout.specs.Windows.{window, digits, reuses, tight, reuse_bits, open_bits, xor_bits, window_after}
+use Rattle.layout.specs.Windows.{digits, reuses, tight, digit_bits, reuse_bits, open_bits, xor_bits, window_after}
 use Rattle.layout.proofs.Xors.{zeros_lt, reused, digits_fit}
 use Rattle.encode.specs.declared.code.PointCode.{PointCode}
 use Rattle.encode.specs.Codes.{xor_digits}
@@ -32,19 +32,17 @@ eleven = refl
 
 -- ---- the words behind a time
 
-module _ (time : List Bool) (x lead trail : ℕ) where
-  pub reuse_words : (h d : List Bool) → h ≡ time ++ bits_of 2 0b10 → d ≡ bits_of (64 - lead - trail) (x / 2 ^ trail)
-      → h ++ d ≡ time ++ reuse_bits 6 (window lead trail) x
+module _ (time : List Bool) (x : ℕ) (w : Window) where
+  pub reuse_words : (h d : List Bool) → h ≡ time ++ bits_of 2 0b10 → d ≡ digit_bits 6 w x → h ++ d ≡ time ++ reuse_bits 6 w x
   unfolding reuse_bits
   reuse_words h d e f = rw (e, f, ten, append_assoc)
 
-  pub open_words : (a b h d : List Bool) (n : ℕ) → d ≡ bits_of (64 - lead - trail) (x / 2 ^ trail) → n ≡ 64 - lead - trail
-      → a ≡ time ++ bits_of 2 0b11 → b ≡ a ++ bits_of 6 lead → h ≡ b ++ bits_of 6 (n - 1)
-      → h ++ d ≡ time ++ open_bits 6 (window lead trail) x
+  pub open_words : (a b h d : List Bool) (n : ℕ) → d ≡ digit_bits 6 w x → n ≡ digits 6 w → a ≡ time ++ bits_of 2 0b11 → b ≡ a ++ bits_of 6 w.lead
+      → h ≡ b ++ bits_of 6 (n - 1) → h ++ d ≡ time ++ open_bits 6 w x
   unfolding open_bits
   open_words a b h d n f m e₁ e₂ e₃ = rw (e₃, e₂, e₁, f, m, eleven) (simp append_assoc)
 
-  pub same_words : (h : List Bool) → h ≡ time ++ bits_of 1 0 → x ≡ 0 → h ++ [] ≡ time ++ xor_bits 6 (window lead trail) x
+  pub same_words : (h : List Bool) → h ≡ time ++ bits_of 1 0 → x ≡ 0 → h ++ [] ≡ time ++ xor_bits 6 w x
   unfolding xor_bits
   same_words h e z = rw (e, z, none) (append-nil _)
 
@@ -70,21 +68,19 @@ xor_some w v (suc y) b bs h e f g =
     let a : v ≡ window_after 6 w (suc y) = g ∙ chosen _ _ _ _ e in
     record { word = f ∙ chosen _ _ _ _ e; size = ap (digits 6) a; after = a }
 
-module _ (l t x : ℕ) (h : 0 < x) (b : Bool) (e : b ≡ (leb l (count_leading_zeros 64 x) && leb t (count_trailing_zeros 64 x))) where
-  by_test : (v : Bool) → b ≡ v → reuses 6 (window l t) x ≡ v
-  unfolding reuses
-  by_test v f = sym e ∙ f
-
+module _ (w : Window) (x : ℕ) (h : 0 < x) where
   -- a window that covers the xor
-  pub reuses_it : b ≡ true → reuses 6 (window l t) x ≡ true
-  reuses_it f = by_test true f
-
-  pub xor_reused : b ≡ true → Xor (window l t) (window l t) x (reuse_bits 6 (window l t) x)
-  xor_reused f = xor_some _ _ x true _ h (by_test true f) refl refl
+  pub xor_reused : reuses 6 w x ≡ true → Xor w w x (reuse_bits 6 w x)
+  xor_reused f = xor_some _ _ x true _ h f refl refl
 
   -- one that does not: the tight one is opened
-  pub xor_opened : b ≡ false → Xor (window l t) (tight 6 x) x (open_bits 6 (tight 6 x) x)
-  xor_opened f = xor_some _ _ x false _ h (by_test false f) refl refl
+  pub xor_opened : reuses 6 w x ≡ false → Xor w (tight 6 x) x (open_bits 6 (tight 6 x) x)
+  xor_opened f = xor_some _ _ x false _ h f refl refl
+
+-- it covers the xor by the tight window's zeros
+pub by_zeros : (w v : Window) (x : ℕ) → v ≡ tight 6 x → (leb w.lead v.lead && leb w.trail v.trail) ≡ reuses 6 w x
+unfolding reuses tight
+by_zeros w v x e = rw e
 
 -- the tight window covers its xor
 pub tight_reuses : (x : ℕ) → reuses 6 (tight 6 x) x ≡ true
@@ -92,12 +88,12 @@ unfolding reuses tight
 tight_reuses x = rw (le-leb _ _ (le_refl (count_leading_zeros 64 x)), le-leb _ _ (le_refl (count_trailing_zeros 64 x)))
 
 -- a window that covers a xor has a digit
-pub covers_room : (l t x : ℕ) → 0 < x → x < 2 ^ 64 → reuses 6 (window l t) x ≡ true → l + t < 64
-covers_room l t x h b e = let r = reused 6 (window l t) x e in omega (arith, zeros_lt 64 x h b, r.0, r.1)
+pub covers_room : (w : Window) (x : ℕ) → 0 < x → x < 2 ^ 64 → reuses 6 w x ≡ true → w.lead + w.trail < 64
+covers_room w x h b e = let r = reused 6 w x e in omega (arith, zeros_lt 64 x h b, r.0, r.1)
 
 -- and holds all its digits
-pub covers_digits : (l t x : ℕ) → x < 2 ^ 64 → reuses 6 (window l t) x ≡ true → x / 2 ^ t < 2 ^ (64 - l - t)
-covers_digits l t x b e = digits_fit 6 (window l t) x b (reused 6 (window l t) x e).0
+pub covers_digits : (w : Window) (x : ℕ) → x < 2 ^ 64 → reuses 6 w x ≡ true → x / 2 ^ w.trail < 2 ^ digits 6 w
+covers_digits w x b e = digits_fit 6 w x b (reused 6 w x e).0
 
 -- a code of one of the cases is a code of the xor
 pub holds_xor : (time bs : List Bool) (w v : Window) (x : ℕ) (k : PointCode) → Holds k (time ++ bs) (digits 6 v) v → Xor w v x bs

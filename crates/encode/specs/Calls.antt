@@ -1,17 +1,16 @@
 -- What each call of the encoder answers, the state it returns and the bits it leaves, for all states and inputs: document 01,
 -- "Numbers of refusal", and what an accepted call writes.
-use Rattle.std.specs.Prelude.{Bool, true, false, not, ◌||◌, List, [], ◌∷◌, ℕ, ◌+◌, ◌*◌, eqb, ltb, length}
+use Rattle.std.specs.Prelude.{Bool, true, false, not, ◌||◌, List, [], ◌∷◌, ℕ, ◌+◌, ◌*◌, eqb, ltb, length, ⊤}
+use Rattle.std.specs.declared.result.Result.{Result}
 use Rattle.stream.specs.Bits.{bits, bytes_for, replaced}
-use Rattle.stream.specs.Refusals.{number_of, when, or_else, by_fault}
-use Rattle.stream.specs.Calls.{limit, Told, given, refused}
+use Rattle.stream.specs.Refusals.{when, or_else, by_fault}
+use Rattle.stream.specs.Calls.{limit, Told, given, refused, tell}
+use Rattle.stream.specs.declared.refusal.Refusal.{Refusal}
+use Rattle.stream.specs.declared.position.BitPos.{BitPos}
+use Rattle.stream.specs.declared.position.ByteCount.{ByteCount}
 use Rattle.layout.specs.Windows.{window, encoder_window, bad_window}
 use Rattle.layout.specs.Writing.{Point, state, time_fault, start_bits, marker, point_bits, state_after}
-use Rattle.encode.specs.declared.std_encoder.EncodeAnswer.{EncodeAnswer}
-use Rattle.encode.specs.declared.std_encoder.EncodeAnswer.TheVariants as encode
-use Rattle.encode.specs.declared.std_encoder.CloseAnswer.{CloseAnswer}
-use Rattle.encode.specs.declared.std_encoder.CloseAnswer.TheVariants as close
 use Rattle.encode.specs.declared.std_encoder.Encoded.{Encoded}
-use Rattle.encode.specs.declared.std_encoder.Closing.{Closing}
 use Rattle.encode.specs.States.{Enc, enc, kept, progress, view}
 
 -- ---- outcomes on paper: what was answered, the state after it, the bits of the buffer after it
@@ -19,20 +18,29 @@ use Rattle.encode.specs.States.{Enc, enc, kept, progress, view}
 abbrev pub Outcome : Type 0
 Outcome = Told × Enc × List Bool
 
-abbrev pub tell_encode : EncodeAnswer → Told
-tell_encode encode.Done = given []
-tell_encode (encode.Refused r) = refused (number_of r)
+-- what a call's values are told as
+abbrev pub told : {A : Type 0} → (A → List ℕ) → Encoded A → List ℕ → Outcome
+told values r l = (tell values r.answer, view r.encoder, bits l)
 
--- the bits and the bytes in use
-abbrev pub tell_close : CloseAnswer → Told
-tell_close (close.Used b n) = given (b.0 ∷ n.0 ∷ [])
-tell_close (close.Refused r) = refused (number_of r)
+-- an opening and a point: nothing
+abbrev pub no_values : ⊤ → List ℕ
+no_values done = []
 
-abbrev pub told_encoded : Encoded → List ℕ → Outcome
-told_encoded r l = (tell_encode r.answer, view r.encoder, bits l)
+-- closing: the bits and the bytes in use
+abbrev pub in_use : BitPos × ByteCount → List ℕ
+in_use used = used.0.0 ∷ used.1.0 ∷ []
 
-abbrev pub told_closing : Closing → List ℕ → Outcome
-told_closing r l = (tell_close r.answer, view r.encoder, bits l)
+abbrev pub tell_encode : Result ⊤ Refusal → Told
+tell_encode = tell no_values
+
+abbrev pub tell_close : Result (BitPos × ByteCount) Refusal → Told
+tell_close = tell in_use
+
+abbrev pub told_encoded : Encoded ⊤ → List ℕ → Outcome
+told_encoded = told no_values
+
+abbrev pub told_closing : Encoded (BitPos × ByteCount) → List ℕ → Outcome
+told_closing = told in_use
 
 -- a refusal with the state that goes with it; the bits stay
 abbrev pub refusing : Enc → List Bool → ℕ → Outcome

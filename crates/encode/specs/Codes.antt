@@ -2,21 +2,24 @@
 use Rattle.std.specs.Prelude.{List, [], ◌∷◌, Bool, ℕ, zero, suc, ◌-◌, ◌^◌, length, take, drop}
 use Rattle.std.specs.Int.Bits.{bit_xor}
 use Rattle.stream.specs.Bits.{value_of}
-use Rattle.stream.specs.Refusals.{number_of, by_fault}
-use Rattle.stream.specs.Calls.{Told, given, refused}
+use Rattle.std.specs.declared.result.Result.{Result}
+use Rattle.stream.specs.Refusals.{by_fault}
+use Rattle.stream.specs.Calls.{Told, given, refused, tell}
+use Rattle.stream.specs.declared.refusal.Refusal.{Refusal}
 use Rattle.layout.specs.declared.Window.{Window}
 use Rattle.layout.specs.Windows.{digits, window_after}
 use Rattle.layout.specs.Writing.{Point, Progress, begun, going, time_fault, point_bits, state_after}
 use Rattle.encode.specs.declared.code.PointCode.{PointCode}
-use Rattle.encode.specs.declared.code.CodeAnswer.{CodeAnswer}
-use Rattle.encode.specs.declared.code.CodeAnswer.TheVariants as code
+
+-- the numbers in it
+abbrev pub in_code : PointCode → List ℕ
+in_code k = k.head.bits ∷ k.head.len ∷ k.digits.bits ∷ k.digits.len ∷ k.window.lead ∷ k.window.trail ∷ []
 
 abbrev pub tell_point : PointCode → Told
-tell_point k = given (k.head.bits ∷ k.head.len ∷ k.digits.bits ∷ k.digits.len ∷ k.leading ∷ k.trailing ∷ [])
+tell_point k = given (in_code k)
 
-abbrev pub tell_code : CodeAnswer → Told
-tell_code (code.Code k) = tell_point k
-tell_code (code.Refused r) = refused (number_of r)
+abbrev pub tell_code : Result PointCode Refusal → Told
+tell_code = tell in_code
 
 -- the numbers of bits of which the last k are digits: those before them and how many they are, the digits and how many they are;
 -- and the window after them

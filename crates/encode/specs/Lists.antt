@@ -1,11 +1,10 @@
 -- Packing two lists in one call: the encoder's own definition, one offer after the other, until one is refused.
 use Rattle.std.specs.Prelude.{Bool, List, [], ◌∷◌, ℕ, suc}
-use Rattle.stream.specs.Bits.{bits}
 use Rattle.stream.specs.Calls.{Told, given, refused}
 use Rattle.layout.specs.Writing.{Point, point_of}
 use Rattle.encode.specs.declared.pack.Packed.{Packed}
-use Rattle.encode.specs.States.{Enc, view}
-use Rattle.encode.specs.Calls.{Outcome, tell_encode, encode_of}
+use Rattle.encode.specs.States.{Enc}
+use Rattle.encode.specs.Calls.{Outcome, told_encoded, encode_of}
 
 -- the points of two lists, as many as the shorter has
 unfoldable pub pairs : List ℕ → List ℕ → List Point
@@ -18,7 +17,7 @@ abbrev pub Packing : Type 0
 Packing = ℕ × Outcome
 
 abbrev pub told_packed : Packed → List ℕ → Packing
-told_packed r l = (r.accepted, (tell_encode r.answer, view r.encoder, bits l))
+told_packed r l = (r.accepted, told_encoded r.last l)
 
 -- one more was accepted
 abbrev pub one_more : Packing → Packing

@@ -1,40 +1,24 @@
 -- What the private parts of a call mean. No public call mentions it.
-use Rattle.std.specs.Prelude.{◌≡◌, Bool, false, cond, List, [], ◌++◌, ℕ, ◌+◌, ◌-◌, ◌*◌, ◌^◌, ◌≤◌, ◌<◌}
+use Rattle.std.specs.Prelude.{◌≡◌, Bool, false, cond, List, [], ◌++◌, ℕ, ◌+◌, ◌-◌, ◌*◌, ◌^◌, ◌≤◌, ◌<◌, ℤ, Ok, Err, Some, None}
+use Rattle.std.specs.declared.option.Option.{Option}
+use Rattle.std.specs.declared.result.Result.{Result}
 use Rattle.std.proofs.Math.IntN.{sub_ℕ}
 use Rattle.stream.specs.Bits.{bits_of, replaced}
 use Rattle.stream.specs.Refusals.{number_of}
-use Rattle.stream.specs.Calls.{Told, given, refused}
+use Rattle.stream.specs.Calls.{given}
 use Rattle.stream.specs.declared.refusal.Refusal.{Refusal}
 use Rattle.layout.specs.declared.Window.{Window}
-use Rattle.layout.specs.Windows.{window}
 use Rattle.layout.specs.Writing.{Point, state, Progress, in_range, time_fault, point_bits, state_after}
 use Rattle.encode.specs.declared.code.Code.{Code}
 use Rattle.encode.specs.declared.code.PointCode.{PointCode}
-use Rattle.encode.specs.declared.code.CodeAnswer.{CodeAnswer}
-use Rattle.encode.specs.declared.code.CodeAnswer.TheVariants as code
-use Rattle.encode.specs.declared.dod.Dod.{Dod}
-use Rattle.encode.specs.declared.dod.Dod.TheVariants.{In, Out}
 use Rattle.encode.specs.declared.std_encoder.StdEncoder.{StdEncoder}
-use Rattle.encode.specs.declared.std_encoder.Standing.{Standing}
-use Rattle.encode.specs.declared.std_encoder.Standing.TheVariants as stands
-use Rattle.encode.specs.declared.std_encoder.Encoded.{Encoded}
-use Rattle.encode.specs.declared.pack.Packed.{Packed}
 use Rattle.encode.specs.States.{Enc, enc}
 use Rattle.encode.specs.Codes.{digits_in}
 use Rattle.encode.specs.Lists.{Packing}
 
--- the number of what keeps a state from a call, 0 for nothing
-abbrev pub fault_of : Standing → ℕ
-fault_of stands.Clear = 0
-fault_of (stands.Refused r) = number_of r
-
--- a refusal, with the state that goes with it
-unfoldable pub refused_by : Enc → Refusal → Told × Enc
-refused_by e r = (refused (number_of r), e)
-
 -- a dod, if it is in range
-unfoldable pub dod_for : ℕ → ℕ → Dod
-dod_for delta previous = cond (in_range (sub_ℕ delta previous)) (In (sub_ℕ delta previous)) Out
+unfoldable pub dod_for : ℕ → ℕ → Option ℤ
+dod_for delta previous = cond (in_range (sub_ℕ delta previous)) (Some (sub_ℕ delta previous)) None
 
 -- the bits that a code holds
 unfoldable pub word_of : Code → List Bool
@@ -47,24 +31,21 @@ Short k = k.bits < 2 ^ k.len
 unfoldable pub words : PointCode → List Bool
 words k = word_of k.head ++ word_of k.digits
 
-abbrev pub window_of : PointCode → Window
-window_of k = window k.leading k.trailing
-
 -- a point's code that holds the bits bs, the last n of them in its digits, with the window w
 pub record Holds (k : PointCode) (bs : List Bool) (n : ℕ) (w : Window) : Type 0 where
   pub head : (k.head.len ≤ 50) × Short k.head
   pub digits : (k.digits.len ≤ 64) × Short k.digits
   pub size : k.digits.len ≡ n
   pub held : words k ≡ bs
-  pub window : window_of k ≡ w
+  pub window : k.window ≡ w
 
 -- the code of a point, or why its time is refused
 abbrev pub Coded : Progress → Point → PointCode → Type 0
 Coded g p k = (0 ≡ time_fault g p.time) × Holds k (point_bits 6 g p) (digits_in 6 g p) (state_after 6 g p).window
 
-unfoldable pub Meets : Progress → Point → CodeAnswer → Type 0
-Meets g p (code.Code k) = Coded g p k
-Meets g p (code.Refused r) = number_of r ≡ time_fault g p.time
+unfoldable pub Meets : Progress → Point → Result PointCode Refusal → Type 0
+Meets g p (Ok k) = Coded g p k
+Meets g p (Err r) = number_of r ≡ time_fault g p.time
 
 -- ---- zeros that wait
 
@@ -86,10 +67,6 @@ pub record Repeats (e : Enc) (t : ℕ) (p : Point) : Type 0 where
   pub value : p.value ≡ e.value
   pub rises : t ≤ p.time
   pub delta : p.time - t ≡ e.delta
-
--- an outcome, and how many points were accepted before it
-unfoldable pub counted : ℕ → Encoded → Packed
-counted k r = record { accepted = k; answer = r.answer; encoder = r.encoder }
 
 -- all k points were accepted
 unfoldable pub all_taken : ℕ → Enc → List Bool → Packing

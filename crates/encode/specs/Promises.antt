@@ -1,6 +1,10 @@
 -- What is promised of the encoder's calls.
-use Rattle.std.specs.Prelude.{◌≡◌, Bool, true, false, List, ◌++◌, ℕ, ◌+◌, ◌-◌, ◌*◌, ◌^◌, ◌≤◌, ◌<◌, length}
+use Rattle.std.specs.Prelude.{◌≡◌, Bool, true, false, List, ◌++◌, ℕ, ◌+◌, ◌-◌, ◌*◌, ◌^◌, ◌≤◌, ◌<◌, length, ⊤}
+use Rattle.std.specs.declared.result.Result.{Result}
 use Rattle.stream.specs.Bits.{bits_of, bits}
+use Rattle.stream.specs.declared.refusal.Refusal.{Refusal}
+use Rattle.stream.specs.declared.position.BitPos.{BitPos}
+use Rattle.stream.specs.declared.position.ByteCount.{ByteCount}
 use Rattle.stream.specs.Calls.{limit, Told, refused}
 use Rattle.stream.specs.Promises.{AreBytes, Tells}
 use Rattle.layout.specs.Windows.{bad_window}
@@ -8,9 +12,7 @@ use Rattle.layout.specs.declared.State.{State}
 use Rattle.layout.specs.Writing.{Point, Progress, dod_of, in_range, time_fault, point_bits}
 use Rattle.encode.specs.declared.std_encoder.StdEncoder.{StdEncoder}
 use Rattle.encode.specs.declared.std_encoder.Encoded.{Encoded}
-use Rattle.encode.specs.declared.std_encoder.Closing.{Closing}
 use Rattle.encode.specs.declared.code.PointCode.{PointCode}
-use Rattle.encode.specs.declared.code.CodeAnswer.{CodeAnswer}
 use Rattle.encode.specs.States.{Enc, progress_by, progress, view}
 use Rattle.encode.specs.Codes.{tell_point, tell_code, code_of}
 use Rattle.encode.specs.Calls.{tell_encode, tell_close, told_encoded, told_closing, open_fault, no_fit, standing, point_fault, shut, fresh, after, open_of, encode_of, close_of}
@@ -20,9 +22,9 @@ use Rattle.encode.specs.Lists.{told_packed}
 -- `one_outcome`: no two outcomes meet the statement of a call
 pub record OneOutcome : Type 0 where
   -- an opening and a point
-  pub encode : (r s : Encoded) (l m : List ℕ) → AreBytes l → AreBytes m → told_encoded r l ≡ told_encoded s m → (r ≡ s) × (l ≡ m)
-  pub close : (r s : Closing) (l m : List ℕ) → AreBytes l → AreBytes m → told_closing r l ≡ told_closing s m → (r ≡ s) × (l ≡ m)
-  pub code : Tells CodeAnswer Told tell_code
+  pub encode : (r s : Encoded ⊤) (l m : List ℕ) → AreBytes l → AreBytes m → told_encoded r l ≡ told_encoded s m → (r ≡ s) × (l ≡ m)
+  pub close : (r s : Encoded (BitPos × ByteCount)) (l m : List ℕ) → AreBytes l → AreBytes m → told_closing r l ≡ told_closing s m → (r ≡ s) × (l ≡ m)
+  pub code : Tells (Result PointCode Refusal) Told tell_code
   pub pack : (r s : Packed) (l m : List ℕ) → AreBytes l → AreBytes m → told_packed r l ≡ told_packed s m → (r ≡ s) × (l ≡ m)
 
 -- ---- which refusal is given: the first rule that holds
@@ -80,11 +82,11 @@ module _ (c : ℕ) where
 -- opening hands back a closed one; l are the bytes before, m those after it
 
 pub record RefusedNothing (l m : List ℕ) : Type 0 where
-  pub «open» : (r : Encoded) (start : ℕ) → told_encoded r m ≡ open_of 6 start (length l) (bits l) → 0 < open_fault (length l)
+  pub «open» : (r : Encoded ⊤) (start : ℕ) → told_encoded r m ≡ open_of 6 start (length l) (bits l) → 0 < open_fault (length l)
       → (tell_encode r.answer ≡ refused (open_fault (length l))) × (view r.encoder ≡ shut) × (m ≡ l)
-  pub encode : (r : Encoded) (e : StdEncoder) (p : Point) → told_encoded r m ≡ encode_of 6 (view e) (length l) (bits l) p → 0 < point_fault 6 (view e) (length l) p
+  pub encode : (r : Encoded ⊤) (e : StdEncoder) (p : Point) → told_encoded r m ≡ encode_of 6 (view e) (length l) (bits l) p → 0 < point_fault 6 (view e) (length l) p
       → (tell_encode r.answer ≡ refused (point_fault 6 (view e) (length l) p)) × (r.encoder ≡ e) × (m ≡ l)
-  pub close : (r : Closing) (e : StdEncoder) → told_closing r m ≡ close_of 6 (view e) (length l) (bits l) → 0 < standing 6 (view e) (length l)
+  pub close : (r : Encoded (BitPos × ByteCount)) (e : StdEncoder) → told_closing r m ≡ close_of 6 (view e) (length l) (bits l) → 0 < standing 6 (view e) (length l)
       → (tell_close r.answer ≡ refused (standing 6 (view e) (length l))) × (r.encoder ≡ e) × (m ≡ l)
 
 abbrev pub RefusedNothings : Type 0

@@ -1,7 +1,6 @@
 -- The encoder's state in plain numbers, and how it stands to the layout.
 use Rattle.std.specs.Prelude.{Bool, cond, ℕ}
 use Rattle.layout.specs.declared.Window.{Window}
-use Rattle.layout.specs.Windows.{window}
 use Rattle.layout.specs.declared.State.{State}
 use Rattle.layout.specs.Writing.{Point, state, Progress, begun, going}
 use Rattle.point.specs.declared.Stored.{Stored}
@@ -38,8 +37,7 @@ abbrev pub progress : Enc → Progress
 progress e = progress_by e.first (kept e)
 
 abbrev pub view : StdEncoder → Enc
-view e =
-    enc e.len.0 e.w.at.0 (state e.time e.delta e.value_bits (window e.leading_zeroes e.trailing_zeroes)) e.first e.closed
+view e = enc e.len.0 e.w.at.0 e.kept e.first e.closed
 
 abbrev pub point_of : Stored → Point
 point_of p = record { time = p.time; value = p.bits }
@@ -47,11 +45,7 @@ point_of p = record { time = p.time; value = p.bits }
 -- ---- what is kept of the last point
 
 abbrev pub last_of : Enc → Last
-last_of e =
-    record { time = e.time; delta = e.delta; value_bits = e.value; leading_zeroes = e.window.lead; trailing_zeroes = e.window.trail; first = e.first }
-
-abbrev pub state_in : Last → State
-state_in k = state k.time k.delta k.value_bits (window k.leading_zeroes k.trailing_zeroes)
+last_of e = record { kept = kept e; first = e.first }
 
 abbrev pub progress_in : Last → Progress
-progress_in k = progress_by k.first (state_in k)
+progress_in k = progress_by k.first k.kept

@@ -7,108 +7,122 @@ ghost use Rattle.stream.specs.Calls.{limit};
 ghost use Rattle.encode.specs.States.{view, point_of};
 ghost use Rattle.encode.specs.Calls.{told_encoded, standing, encode_of};
 ghost use Rattle.encode.specs.Lists.{pairs, told_packed, packs_of};
-ghost use Rattle.encode.specs.Parts.{ahead, zeroed, MayWait, Repeats, counted, all_taken};
+ghost use Rattle.encode.specs.Parts.{ahead, zeroed, MayWait, Repeats, all_taken};
 
 use super::code::Code;
 use super::put::{bits_before, put};
-use super::std_encoder::{EncodeAnswer, Encoded, Standing, StdEncoder, offer, standing_of};
+use super::std_encoder::{Encoded, StdEncoder, offer, refuse, standing_of};
 use point::{Stored, points_in};
 
-// How many points were accepted; that all were, or the refusal of the next one; and the encoder after it.
+// How many points were accepted; and what came of the last call: that all were, or the refusal of the next one, and the encoder after it.
 #[derive(Clone, Copy)]
 pub struct Packed {
     pub accepted: usize,
-    pub answer: EncodeAnswer,
-    pub encoder: StdEncoder,
+    pub last: Encoded<()>,
 }
 
-// ---- zeros that wait. The encoder stays as it is written; beside it stand the time of the last accepted point, and how many zeros of
-// accepted points are still to be written.
+// ---- zeros that wait
 
-// How many zeros may wait: no more than one write takes, and than leave room for the marker.
-fn most_zeros(e: StdEncoder) -> u32
-    requires { (e.len.0 ≤ limit) × (e.w.at.0 + 36 ≤ 8 * e.len.0) }
-    ensures { MayWait result e }
-{
-    let all = 8 * e.len.get();
-    let at = bits_before(e.w);
-    let left = all - at - StdEncoder::END_MARKER_LEN as usize;
-    if left < 62 { left as u32 } else { 62 }
+// An encoder as it is written, the time of the last accepted point, how many zeros of accepted points are still to be written, and how many may be.
+#[derive(Clone, Copy)]
+struct Waiting {
+    encoder: StdEncoder,
+    time: u64,
+    zeros: u32,
+    most: u32,
+    ghost room: { MayWait most encoder },
+    ghost within: { zeros ≤ most },
 }
 
-// Whether the two zeros of a point may wait too: there is room for them, and it is the last point again, a delta later.
-fn waits(e: StdEncoder, time: u64, zeros: u32, most: u32, p: Stored) -> bool
-    requires { zeros ≤ 62 }
-    ensures { result ≡ true → (zeros + 2 ≤ most) × Repeats (view e) time (point_of p) }
-{
-    if most < zeros + 2 {
-        return false;
+impl Waiting {
+    // None wait. No more may than one write takes, and than leave room for the marker.
+    fn none(e: StdEncoder) -> Waiting
+        requires { (e.len.0 ≤ limit) × (e.w.at.0 + 36 ≤ 8 * e.len.0) }
+        ensures { (result.encoder ≡ e) × (result.time ≡ e.kept.time) × (result.zeros ≡ 0) }
+    {
+        let all = 8 * e.len.get();
+        let at = bits_before(e.w);
+        let left = all - at - StdEncoder::END_MARKER_LEN as usize;
+        Waiting {
+            encoder: e,
+            time: e.kept.time,
+            zeros: 0,
+            most: left.min(62) as u32,
+        }
     }
-    if e.first {
-        return false;
-    }
-    if p.bits != e.value_bits {
-        return false;
-    }
-    if p.time < time {
-        return false;
-    }
-    p.time - time == e.delta
-}
 
-// Writes the zeros that wait: the encoder behind them, at the last point's time.
-fn catch_up(e: StdEncoder, buf: &mut [u8], time: u64, zeros: u32) -> StdEncoder
-    requires value { 0 ≡ standing 6 (view e) (length buf.old) }
-    requires may_wait { MayWait zeros e }
-    ensures { (view result ≡ ahead time zeros (view e)) × (bits buf.new ≡ zeroed (bits buf.old) e.w.at.0 zeros) }
-{
-    let code = Code {
-        bits: 0,
-        len: zeros,
-    };
-    let w = put(e.w, buf, code);
-    let mut encoder = e;
-    encoder.time = time;
-    encoder.w = w;
-    encoder
-}
+    // Whether the two zeros of a point may wait too: there is room for them, and it is the last point again, a delta later.
+    fn takes(self, p: Stored) -> bool
+        ensures { result ≡ true → (self.zeros + 2 ≤ self.most) × Repeats (view self.encoder) self.time (point_of p) }
+    {
+        let e = self.encoder;
+        if self.most < self.zeros + 2 {
+            return false;
+        }
+        if e.first {
+            return false;
+        }
+        if p.bits != e.kept.value {
+            return false;
+        }
+        if p.time < self.time {
+            return false;
+        }
+        p.time - self.time == e.kept.delta
+    }
 
-// A point offered behind the zeros that wait.
-fn offer_behind(e: StdEncoder, buf: &mut [u8], time: u64, zeros: u32, p: Stored) -> Encoded
-    requires value { 0 ≡ standing 6 (view e) (length buf.old) }
-    requires may_wait { MayWait zeros e }
-    ensures { (told_encoded result buf.new ≡ encode_of 6 (ahead time zeros (view e)) (length buf.old) (zeroed (bits buf.old) e.w.at.0 zeros) (point_of p)) × (0 ≡ standing 6 (view result.encoder) (length buf.old)) }
-{
-    let behind = catch_up(e, buf, time, zeros);
-    offer(behind, buf, p)
+    // The two zeros of a point that it takes wait too.
+    fn with(self, p: Stored) -> Waiting
+        requires { self.zeros + 2 ≤ self.most }
+        ensures { (result.encoder ≡ self.encoder) × (result.time ≡ p.time) × (result.zeros ≡ self.zeros + 2) }
+    {
+        Waiting {
+            encoder: self.encoder,
+            time: p.time,
+            zeros: self.zeros + 2,
+            most: self.most,
+        }
+    }
+
+    // Writes the zeros that wait: the encoder behind them, at the last point's time.
+    fn catch_up(self, buf: &mut [u8]) -> StdEncoder
+        requires { 0 ≡ standing 6 (view self.encoder) (length buf.old) }
+        ensures { (view result ≡ ahead self.time self.zeros (view self.encoder)) × (bits buf.new ≡ zeroed (bits buf.old) self.encoder.w.at.0 self.zeros) }
+    {
+        let code = Code {
+            bits: 0,
+            len: self.zeros,
+        };
+        let mut encoder = self.encoder;
+        encoder.kept.time = self.time;
+        encoder.w = put(encoder.w, buf, code);
+        encoder
+    }
+
+    // A point offered behind the zeros that wait.
+    fn offer(self, buf: &mut [u8], p: Stored) -> Encoded<()>
+        requires { 0 ≡ standing 6 (view self.encoder) (length buf.old) }
+        ensures { (told_encoded result buf.new ≡ encode_of 6 (ahead self.time self.zeros (view self.encoder)) (length buf.old) (zeroed (bits buf.old) self.encoder.w.at.0 self.zeros) (point_of p)) × (0 ≡ standing 6 (view result.encoder) (length buf.old)) }
+    {
+        let behind = self.catch_up(buf);
+        offer(behind, buf, p)
+    }
 }
 
 // ---- the lists
 
-// A point's outcome, and how many were accepted before it.
-fn with_count(accepted: usize, r: Encoded) -> Packed
-    ensures { result ≡ counted accepted r }
-{
-    let answer = r.answer;
-    let encoder = r.encoder;
-    Packed {
-        accepted,
-        answer,
-        encoder,
-    }
-}
-
 // All were accepted: the zeros that still wait are written.
-fn packed_all(e: StdEncoder, buf: &mut [u8], time: u64, zeros: u32, n: usize) -> Packed
-    requires value { 0 ≡ standing 6 (view e) (length buf.old) }
-    requires may_wait { MayWait zeros e }
-    ensures { told_packed result buf.new ≡ all_taken n (ahead time zeros (view e)) (zeroed (bits buf.old) e.w.at.0 zeros) }
+fn packed_all(waiting: Waiting, buf: &mut [u8], n: usize) -> Packed
+    requires { 0 ≡ standing 6 (view waiting.encoder) (length buf.old) }
+    ensures { told_packed result buf.new ≡ all_taken n (ahead waiting.time waiting.zeros (view waiting.encoder)) (zeroed (bits buf.old) waiting.encoder.w.at.0 waiting.zeros) }
 {
-    let encoder = catch_up(e, buf, time, zeros);
+    let encoder = waiting.catch_up(buf);
     Packed {
         accepted: n,
-        answer: EncodeAnswer::Done,
-        encoder,
+        last: Encoded {
+            answer: Ok(()),
+            encoder,
+        },
     }
 }
 
@@ -118,42 +132,31 @@ fn pack_points(encoder: StdEncoder, buf: &mut [u8], times: &[u64], values: &[u64
     ensures { told_packed result buf.new ≡ packs_of 6 (view encoder) (length buf.old) (bits buf.old) (pairs times.now values.now) }
 {
     let n = points_in(times, values);
-    let mut e = encoder;
-    let mut time = encoder.time;
-    let mut zeros: u32 = 0;
-    let mut most = most_zeros(encoder);
-    let mut i: usize = 0;
-    while i < n {
-        let next = i + 1;
+    let mut waiting = Waiting::none(encoder);
+    for i in 0..n {
         let p = Stored {
             time: times[i],
             bits: values[i],
         };
-        if waits(e, time, zeros, most, p) {
-            time = p.time;
-            zeros += 2;
-            i = next;
-        } else {
-            let r = offer_behind(e, buf, time, zeros, p);
-            let answer = r.answer;
-            match answer {
-                EncodeAnswer::Refused(_) => {
-                    return with_count(i, r);
-                }
-                EncodeAnswer::Done => {
-                    e = r.encoder;
-                    time = e.time;
-                    zeros = 0;
-                    most = most_zeros(e);
-                    i = next;
-                }
+        if waiting.takes(p) {
+            waiting = waiting.with(p);
+            continue;
+        }
+        let r = waiting.offer(buf, p);
+        match r.answer {
+            Err(_) => {
+                return Packed {
+                    accepted: i,
+                    last: r,
+                };
             }
+            Ok(()) => waiting = Waiting::none(r.encoder),
         }
     }
-    packed_all(e, buf, time, zeros, i)
+    packed_all(waiting, buf, n)
 }
 
-// Offers the points of two lists, as many as the shorter has, until one is refused.
+// Offers the points of two lists, as many as the shorter has, until one is refused. Two lists, and not one of points: the C interface hands over two.
 pub fn pack_some(encoder: StdEncoder, buf: &mut [u8], times: &[u64], values: &[u64]) -> Packed
     ensures { told_packed result buf.new ≡ packs_of 6 (view encoder) (length buf.old) (bits buf.old) (pairs times.now values.now) }
 {
@@ -161,17 +164,17 @@ pub fn pack_some(encoder: StdEncoder, buf: &mut [u8], times: &[u64], values: &[u
     if points_in(times, values) == 0 {
         return Packed {
             accepted: 0,
-            answer: EncodeAnswer::Done,
-            encoder,
+            last: Encoded {
+                answer: Ok(()),
+                encoder,
+            },
         };
     }
-    let standing = standing_of(encoder, buf.len());
-    match standing {
-        Standing::Refused(why) => Packed {
+    match standing_of(encoder, buf.len()) {
+        Err(why) => Packed {
             accepted: 0,
-            answer: EncodeAnswer::Refused(why),
-            encoder,
+            last: refuse(encoder, why),
         },
-        Standing::Clear => pack_points(encoder, buf, times, values),
+        Ok(()) => pack_points(encoder, buf, times, values),
     }
 }

@@ -33,8 +33,6 @@ pub(super) fn put_point(w: BufferedWriter, buf: &mut [u8], k: PointCode) -> Buff
     requires len_bound_2 { w.at.0 + (k.head.len + k.digits.len) ≤ 8 * length buf.old }
     ensures { (result.at.0 ≡ w.at.0 + (k.head.len + k.digits.len)) × (bits buf.new ≡ replaced (bits buf.old) w.at.0 (words k)) }
 {
-    let head = k.head;
-    let digits = k.digits;
-    let behind = put(w, buf, head);
-    put(behind, buf, digits)
+    let behind = put(w, buf, k.head);
+    put(behind, buf, k.digits)
 }

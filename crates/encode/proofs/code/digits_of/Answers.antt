@@ -5,4 +5,4 @@ use Rattle.encode.proofs.code.digits_of.Goals as goal
 
 pub returns : goal.returns
 unfolding word_of
-returns c = (refl, covers_digits _ _ _ c.ranges.x.fits c.requires.x_value, refl)
+returns c = (refl, covers_digits _ _ c.ranges.x.fits c.requires.x_value, refl)

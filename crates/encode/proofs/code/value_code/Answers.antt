@@ -1,34 +1,34 @@
+use mathlib.Core.Path.{sym, ◌∙◌}
 use native.Mathlib.Omega.{arith}
 use Rattle.stream.specs.Bits.{bits_of}
 use Rattle.layout.proofs.Xors.{zeros_lt}
-use Rattle.layout.specs.Windows.{window, tight}
+use Rattle.layout.specs.Windows.{tight}
 use Rattle.encode.specs.Parts.{word_of, words}
-use Rattle.encode.proofs.Values.{same_words, xor_none, reuses_it, xor_reused, xor_opened, tight_reuses, covers_room, holds_xor}
+use Rattle.encode.proofs.Values.{same_words, xor_none, xor_reused, xor_opened, tight_reuses, covers_room, holds_xor}
 use Rattle.encode.proofs.code.value_code.Goals as goal
 
 pub returns-then-x-eq0 : goal.returns-then-x-eq0
 unfolding words word_of bits_of
 returns-then-x-eq0 c =
-    let j = c.join-head.ensures in
-    let x = xor_none (window c.args.lead c.args.trail) _ c.if-x-eq0.true in
+    let j = c.with.ensures in
+    let x = xor_none c.args.window _ c.if-x-eq0.true in
     record {
       head = (omega (arith, j.0, c.requires.0), j.1);
       digits = (omega arith, omega arith);
       size = x.0;
-      held = same_words (word_of c.args.time) _ _ _ _ j.2 c.if-x-eq0.true;
+      held = same_words (word_of c.args.time) _ _ _ j.2 c.if-x-eq0.true;
       window = x.1;
     }
 
 pub reuse-requires : goal.reuse-requires
-reuse-requires c = let r = reuses_it _ _ c.args.x (omega arith) _ c.covers.ensures c.if-covers.true in record { len_bound = c.requires; trail_bound = covers_room _ _ c.args.x (omega arith) c.ranges.x.fits r; x_value = r }
+reuse-requires c = let r = sym c.covers.ensures ∙ c.if-covers.true in record { len_bound = c.requires; room = covers_room _ c.args.x (omega arith) c.ranges.x.fits r; x_value = r }
 
 pub returns-then-covers : goal.returns-then-covers
-returns-then-covers c = holds_xor (word_of c.args.time) _ _ _ _ _ c.reuse.ensures (xor_reused _ _ c.args.x (omega arith) _ c.covers.ensures c.if-covers.true)
+returns-then-covers c = holds_xor (word_of c.args.time) _ _ _ _ _ c.reuse.ensures (xor_reused _ c.args.x (omega arith) (sym c.covers.ensures ∙ c.if-covers.true))
 
 pub open_window-requires : goal.open_window-requires
 unfolding tight
-open_window-requires c = record { len_bound = c.requires; trail_bound = zeros_lt 64 c.args.x (omega arith) c.ranges.x.fits; x_value = tight_reuses c.args.x }
+open_window-requires c = rw c.tight_of.ensures record { len_bound = c.requires; room = zeros_lt 64 c.args.x (omega arith) c.ranges.x.fits; x_value = tight_reuses c.args.x }
 
 pub returns : goal.returns
-unfolding tight
-returns c = holds_xor (word_of c.args.time) _ _ _ _ _ c.open_window.ensures (xor_opened _ _ c.args.x (omega arith) _ c.covers.ensures c.if-covers.false)
+returns c = holds_xor (word_of c.args.time) _ _ _ _ _ (rw c.tight_of.ensures at c.open_window.ensures) (xor_opened _ c.args.x (omega arith) (sym c.covers.ensures ∙ c.if-covers.false))

@@ -1,13 +1,17 @@
-use mathlib.Core.Path.{sym, ◌∙◌}
+use mathlib.Core.Path.{refl, sym, ◌∙◌}
 use native.Mathlib.Omega.{arith}
-use Rattle.encode.proofs.Codes.{row_here, row_next, row_behind, last_takes}
+use mir.Facts.{to_z-of_z}
+use Rattle.encode.proofs.Codes.{row_here, row_next, one_takes}
 use Rattle.encode.proofs.dod.row_of.Goals as goal
 
-pub returns-then-in_row : goal.returns-then-in_row
-returns-then-in_row c = row_here _ c.ranges.d _ _ c.row_at-row.ensures c.loop-i.invariant.1 (omega arith) (sym c.in_row.ensures ∙ c.if-in_row.true)
+pub loop-row-init : goal.loop-row-init
+loop-row-init c = refl
 
-pub loop-i-preserved : goal.loop-i-preserved
-loop-i-preserved c = (omega arith, row_next _ c.ranges.d _ _ c.row_at-row.ensures c.loop-i.invariant.1 (omega arith) (sym c.in_row.ensures ∙ c.if-in_row.false))
+pub returns-then-takes : goal.returns-then-takes
+returns-then-takes c = row_here _ c.loop-row.row-index _ c.loop-row.invariant (omega arith) _ (to_z-of_z c.ranges.d) (sym c.takes.ensures ∙ c.if-takes.true)
 
-pub returns : goal.returns
-returns c = row_here _ c.ranges.d 3 _ c.row_at.ensures (row_behind _ c.loop-i.i 3 (omega arith) c.loop-i.invariant.1) (omega arith) (last_takes _ _ c.ranges.d c.row_at.ensures c.requires)
+pub loop-row-preserved : goal.loop-row-preserved
+loop-row-preserved c = row_next _ c.loop-row.row-index _ c.loop-row.invariant (omega arith) (sym c.takes.ensures ∙ c.if-takes.false)
+
+pub unreachable-requires : goal.unreachable-requires
+unreachable-requires c = one_takes _ _ (rw (to_z-of_z c.ranges.d) c.requires) c.loop-row.invariant (omega arith)

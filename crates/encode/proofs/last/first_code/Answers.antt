@@ -6,8 +6,8 @@ use Rattle.encode.proofs.last.first_code.Goals as goal
 
 pub returns-then-delta-gt16383 : goal.returns-then-delta-gt16383
 unfolding Meets
-returns-then-delta-gt16383 c = first_far _ _ _ c.requires.first_value c.requires.time_le_time (omega arith)
+returns-then-delta-gt16383 c = first_far _ _ c.requires (omega arith)
 
 pub returns : goal.returns
 unfolding Meets
-returns c = first_coded _ _ _ c.requires.first_value c.requires.time_le_time (search rules) (omega arith)
+returns c = first_coded _ _ c.requires (search rules) (omega arith)

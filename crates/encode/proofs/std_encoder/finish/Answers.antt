@@ -15,4 +15,4 @@ unfolding marked
 returns c =
     let m = c.end_marker.ensures in
     let p = c.put-behind.ensures in
-    closes _ _ _ _ _ _ _ c.requires m.0 m.1 (ap (λ (q : BitPos). q.0) c.position-end.ensures ∙ p.0) c.to_bytes.ensures p.1
+    closes _ _ _ _ _ _ _ c.requires m.0 m.1 (ap (λ (q : BitPos). q.0) c.position-end.ensures ∙ p.0) c.from.ensures p.1

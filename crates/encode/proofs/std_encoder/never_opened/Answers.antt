@@ -1,7 +1,6 @@
 use Rattle.encode.specs.Calls.{shut}
-use Rattle.encode.specs.Parts.{refused_by}
 use Rattle.encode.proofs.std_encoder.never_opened.Goals as goal
 
 pub returns : goal.returns
-unfolding refused_by shut
-returns c = rw (c.new-len.ensures, c.new-w.ensures)
+unfolding shut
+returns c = rw (c.new.ensures, c.new-2.ensures)

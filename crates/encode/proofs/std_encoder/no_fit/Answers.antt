@@ -12,11 +12,8 @@ returns-then-len-gt-LIMIT c = sym ((misfits 6 _ _).too_long (omega arith) (omega
 pub returns-then-at-lt64 : goal.returns-then-at-lt64
 returns-then-at-lt64 c = sym ((misfits 6 _ _).too_early (omega arith) (omega arith) (omega arith))
 
-pub returns-then-all-at : goal.returns-then-all-at
-returns-then-all-at c = sym ((misfits 6 _ _).too_late (omega arith) (omega arith) (omega arith) (omega arith))
-
 pub returns-then-left : goal.returns-then-left
 returns-then-left c = sym ((misfits 6 _ _).too_late (omega arith) (omega arith) (omega arith) (omega arith))
 
 pub returns : goal.returns
-returns c = c.bad_window.ensures ∙ sym ((misfits 6 _ _).otherwise (omega arith) (omega arith) (omega arith) (omega arith))
+returns c = c.is_bad.ensures ∙ sym ((misfits 6 _ _).otherwise (omega arith) (omega arith) (omega arith) (omega arith))

@@ -1,5 +1,6 @@
 use Rattle.encode.specs.States.{view}
-use Rattle.encode.proofs.CallLaws.{with_bits, refused_time}
+use Rattle.encode.specs.Calls.{no_values}
+use Rattle.encode.proofs.CallLaws.{told_refused, refused_time}
 use Rattle.encode.proofs.Points.{last_meets}
 use Rattle.encode.proofs.Standing.{refused_stands}
 use Rattle.encode.specs.Parts.{Meets}
@@ -9,12 +10,12 @@ use Rattle.encode.proofs.std_encoder.offer.Goals as goal
 
 pub write_point-requires : goal.write_point-requires
 unfolding Meets
-write_point-requires c = record { value = search rules; coded = last_meets (view c.args.e) _ c.last.ensures _ _ _ c.code_after-code.ensures c.in-Code.is }
+write_point-requires c = record { value = search rules; coded = last_meets (view c.args.e) _ c.last.ensures _ _ _ c.code_after.ensures c.in-Ok.is }
 
-pub returns-in-Refused : goal.returns-in-Refused
+pub returns-in-Err : goal.returns-in-Err
 unfolding Meets
-returns-in-Refused c = (
-  with_bits _ _ _ _ _ c.refuse.ensures
-      ∙ refused_time 6 _ _ _ _ c.in-Refused.why c.requires (last_meets (view c.args.e) _ c.last.ensures _ _ _ c.code_after-code.ensures c.in-Refused.is),
-  refused_stands _ _ c.requires _ _ _ c.refuse.ensures,
+returns-in-Err c = (
+  told_refused no_values _ _ _ _ _ c.refuse.ensures
+      ∙ refused_time 6 _ _ _ _ c.in-Err.why c.requires (last_meets (view c.args.e) _ c.last.ensures _ _ _ c.code_after.ensures c.in-Err.is),
+  refused_stands _ _ c.requires _ c.refuse.ensures.1,
 )

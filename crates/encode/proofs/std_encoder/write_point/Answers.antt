@@ -4,8 +4,8 @@ use Rattle.encode.proofs.Points.{rises}
 use Rattle.encode.proofs.Standing.{told_stands}
 use Rattle.encode.proofs.std_encoder.write_point.Goals as goal
 
-pub overflow_sub-delta : goal.overflow_sub-delta
-overflow_sub-delta c = rises _ _ _ c.requires.coded.0
+pub overflow_sub-kept : goal.overflow_sub-kept
+overflow_sub-kept c = rises _ _ _ c.requires.coded.0
 
 pub overflow_mul-all : goal.overflow_mul-all
 overflow_mul-all c = let t = stands_as 6 _ _ c.requires.value in omega (arith, t.small)

@@ -1,9 +1,9 @@
 use native.Mathlib.Omega.{arith}
 use Rattle.encode.proofs.Runs.{caught_stands, offered_behind}
-use Rattle.encode.proofs.pack.offer_behind.Goals as goal
+use Rattle.encode.proofs.pack.Waiting.offer.Goals as goal
 
 pub offer-requires : goal.offer-requires
-offer-requires c = caught_stands _ _ _ _ _ _ c.catch_up-behind.ensures.0 c.requires.value c.requires.may_wait.1 (omega arith)
+offer-requires c = caught_stands _ _ _ _ _ _ c.catch_up-behind.ensures.0 c.requires (omega arith) (omega arith)
 
 pub returns : goal.returns
 returns c =
