@@ -1,4 +1,3 @@
-pub mod Placing
 pub mod OneOutcome
 pub mod HeldReads
 pub mod Instances

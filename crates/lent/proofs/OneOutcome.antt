@@ -3,26 +3,26 @@ use mathlib.Core.Path.{◌≡◌, ap}
 use Prim.Native.Nat.{ℕ}
 use Rattle.stream.specs.Calls.{Told, tell_bits}
 use Rattle.stream.specs.Promises.{Tells}
-use Rattle.stream.specs.declared.buffered_read.BitsAnswer.{BitsAnswer}
-use Rattle.stream.specs.declared.buffered_read.BitsRead.{BitsRead}
+use Rattle.std.specs.Prelude.{⊤}
+use Rattle.std.specs.declared.result.Result.{Result}
+use Rattle.stream.specs.declared.refusal.Refusal.{Refusal}
+use Rattle.stream.specs.declared.position.BitPos.{BitPos}
+use Rattle.stream.specs.declared.position.ByteCount.{ByteCount}
 use Rattle.stream.proofs.OneOutcome as stream
 use Rattle.encode.specs.declared.std_encoder.Encoded.{Encoded}
-use Rattle.encode.specs.declared.std_encoder.Closing.{Closing}
 use Rattle.encode.proofs.OneOutcome as encoder
-use Rattle.decode.specs.declared.std_decoder.Next.{Next}
+use Rattle.decode.specs.declared.std_decoder.Decoded.{Decoded}
+use Rattle.decode.specs.declared.std_decoder.Step.{Step}
 use Rattle.decode.proofs.OneOutcome as decoder
 use Rattle.lent.specs.declared.held_reader.HeldReader.{HeldReader}
 use Rattle.lent.specs.declared.held_reader.TwoReads.{TwoReads}
 use Rattle.lent.specs.Calls.{Reading, told_held, told_two, offered, shutting, answered}
 use Rattle.lent.specs.Promises.{OneOutcome, RefusedInPlaces}
 
--- an answer alone, by a read that left its reader at 0
-bits_told : Tells BitsAnswer Told tell_bits
-bits_told a b e =
-    ap (λ (r : BitsRead). r.answer)
-    ((stream.one_outcome).read_bits (record { answer = a; reader = record { at = record { 0 = 0 } } }) (record { answer = b; reader = record { at = record { 0 = 0 } } }) (λ i. (e i, 0)))
+bits_told : Tells (Result ℕ Refusal) Told tell_bits
+bits_told = stream.told _ (λ x y e. let n : x ≡ y = cc in n)
 
-read_once : (a b : BitsAnswer) (r s : HeldReader) → told_held a r ≡ told_held b s → (a ≡ b) × (r ≡ s)
+read_once : (a b : Result ℕ Refusal) (r s : HeldReader) → told_held a r ≡ told_held b s → (a ≡ b) × (r ≡ s)
 read_once a b r s e = (bits_told a b (ap (λ (o : Reading). o.0) e), λ i. record { bytes = (e i).2; at = record { 0 = (e i).1 } })
 
 two_told : Tells TwoReads (Told × (Told × ℕ)) told_two
@@ -39,13 +39,13 @@ one_outcome = record {
   two = two_told;
   encode = λ a b e f l m hl hm t.
       let o = (encoder.one_outcome).encode (offered a e) (offered b f) l m hl hm t in
-      (ap (λ (r : Encoded). r.answer) o.0, ap (λ (r : Encoded). r.encoder) o.0, o.1);
+      (ap (λ (r : Encoded ⊤). r.answer) o.0, ap (λ (r : Encoded ⊤). r.encoder) o.0, o.1);
   close = λ a b e f l m hl hm t.
       let o = (encoder.one_outcome).close (shutting a e) (shutting b f) l m hl hm t in
-      (ap (λ (r : Closing). r.answer) o.0, ap (λ (r : Closing). r.encoder) o.0, o.1);
+      (ap (λ (r : Encoded (BitPos × ByteCount)). r.answer) o.0, ap (λ (r : Encoded (BitPos × ByteCount)). r.encoder) o.0, o.1);
   next = λ a b d e t.
       let o = (decoder.one_outcome).next (answered a d) (answered b e) t in
-      (ap (λ (r : Next). r.answer) o, ap (λ (r : Next). r.decoder) o);
+      (ap (λ (r : Decoded Step). r.answer) o, ap (λ (r : Decoded Step). r.decoder) o);
 }
 
 pub refused_in_place : RefusedInPlaces

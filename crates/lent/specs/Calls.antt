@@ -1,16 +1,16 @@
 -- What the calls of the lent shapes tell: by the words of the calls that they are thin over.
-use Rattle.std.specs.Prelude.{ℕ, List}
+use Rattle.std.specs.Prelude.{ℕ, List, ⊤}
 use Rattle.std.specs.Borrow.{Bor}
-use Rattle.stream.specs.declared.buffered_read.BitsAnswer.{BitsAnswer}
+use Rattle.std.specs.declared.result.Result.{Result}
+use Rattle.stream.specs.declared.refusal.Refusal.{Refusal}
+use Rattle.stream.specs.declared.position.BitPos.{BitPos}
+use Rattle.stream.specs.declared.position.ByteCount.{ByteCount}
 use Rattle.stream.specs.Calls.{Told, tell_bits, read_of}
 use Rattle.encode.specs.declared.std_encoder.StdEncoder.{StdEncoder}
-use Rattle.encode.specs.declared.std_encoder.EncodeAnswer.{EncodeAnswer}
-use Rattle.encode.specs.declared.std_encoder.CloseAnswer.{CloseAnswer}
 use Rattle.encode.specs.declared.std_encoder.Encoded.{Encoded}
-use Rattle.encode.specs.declared.std_encoder.Closing.{Closing}
 use Rattle.decode.specs.declared.std_decoder.StdDecoder.{StdDecoder}
 use Rattle.decode.specs.declared.std_decoder.Step.{Step}
-use Rattle.decode.specs.declared.std_decoder.Next.{Next}
+use Rattle.decode.specs.declared.std_decoder.Decoded.{Decoded}
 use Rattle.lent.specs.declared.held_reader.HeldReader.{HeldReader}
 use Rattle.lent.specs.declared.held_reader.TwoReads.{TwoReads}
 
@@ -20,7 +20,7 @@ use Rattle.lent.specs.declared.held_reader.TwoReads.{TwoReads}
 abbrev pub Reading : Type 0
 Reading = Told × ℕ × Bor (List ℕ)
 
-abbrev pub told_held : BitsAnswer → HeldReader → Reading
+abbrev pub told_held : Result ℕ Refusal → HeldReader → Reading
 told_held a r = (tell_bits a, r.at.0, r.bytes)
 
 -- a read of num bits: the bit reader's on the bytes held, from the place held; the bytes stay
@@ -37,11 +37,14 @@ two_of l p first second = ((read_of l p first).0, read_of l (read_of l p first).
 
 -- ---- a state changed in place: the answer, and the state behind the reference after it, as the call by value returns them
 
-abbrev pub offered : EncodeAnswer → StdEncoder → Encoded
-offered a e = record { answer = a; encoder = e }
+abbrev pub returned : {A : Type 0} → Result A Refusal → StdEncoder → Encoded A
+returned a e = record { answer = a; encoder = e }
 
-abbrev pub shutting : CloseAnswer → StdEncoder → Closing
-shutting a e = record { answer = a; encoder = e }
+abbrev pub offered : Result ⊤ Refusal → StdEncoder → Encoded ⊤
+offered = returned
 
-abbrev pub answered : Step → StdDecoder → Next
+abbrev pub shutting : Result (BitPos × ByteCount) Refusal → StdEncoder → Encoded (BitPos × ByteCount)
+shutting = returned
+
+abbrev pub answered : Step → StdDecoder → Decoded Step
 answered a d = record { answer = a; decoder = d }

@@ -1,15 +1,16 @@
 -- What is promised of the lent shapes.
-use Rattle.std.specs.Prelude.{◌≡◌, List, ℕ, ◌+◌, ◌<◌, length}
+use Rattle.std.specs.Prelude.{◌≡◌, List, ℕ, ◌+◌, ◌<◌, length, ⊤}
 use Rattle.stream.specs.Bits.{bits}
 use Rattle.stream.specs.Calls.{Told, refused, tell_bits, width, field_fault, read_of, peek_of}
 use Rattle.stream.specs.Promises.{AreBytes, Tells}
-use Rattle.stream.specs.declared.buffered_read.BitsAnswer.{BitsAnswer}
+use Rattle.std.specs.declared.result.Result.{Result}
+use Rattle.stream.specs.declared.refusal.Refusal.{Refusal}
+use Rattle.stream.specs.declared.position.BitPos.{BitPos}
+use Rattle.stream.specs.declared.position.ByteCount.{ByteCount}
 use Rattle.layout.specs.Writing.{Point}
 use Rattle.encode.specs.States as encoder
 use Rattle.encode.specs.Calls.{tell_encode, tell_close, told_encoded, told_closing, standing, point_fault, encode_of, close_of}
 use Rattle.encode.specs.declared.std_encoder.StdEncoder.{StdEncoder}
-use Rattle.encode.specs.declared.std_encoder.EncodeAnswer.{EncodeAnswer}
-use Rattle.encode.specs.declared.std_encoder.CloseAnswer.{CloseAnswer}
 use Rattle.decode.specs.Calls.{told_next}
 use Rattle.decode.specs.declared.std_decoder.StdDecoder.{StdDecoder}
 use Rattle.decode.specs.declared.std_decoder.Step.{Step}
@@ -23,15 +24,15 @@ pub record OneOutcome : Type 0 where
   -- `new` and `at`: its bytes and its place are all of a reader
   pub made : (r s : HeldReader) → r.bytes ≡ s.bytes → r.at.0 ≡ s.at.0 → r ≡ s
   -- `read_bits`: the answer, and the reader behind the reference
-  pub read : (a b : BitsAnswer) (r s : HeldReader) → told_held a r ≡ told_held b s → (a ≡ b) × (r ≡ s)
+  pub read : (a b : Result ℕ Refusal) (r s : HeldReader) → told_held a r ≡ told_held b s → (a ≡ b) × (r ≡ s)
   -- `peak_bits` and `first_bits`
-  pub peak : Tells BitsAnswer Told tell_bits
+  pub peak : Tells (Result ℕ Refusal) Told tell_bits
   -- `read_two`
   pub two : Tells TwoReads (Told × (Told × ℕ)) told_two
   -- in place: the answer, the state behind the reference and, of the encoder, the bytes
-  pub encode : (a b : EncodeAnswer) (e f : StdEncoder) (l m : List ℕ) → AreBytes l → AreBytes m → told_encoded (offered a e) l ≡ told_encoded (offered b f) m
+  pub encode : (a b : Result ⊤ Refusal) (e f : StdEncoder) (l m : List ℕ) → AreBytes l → AreBytes m → told_encoded (offered a e) l ≡ told_encoded (offered b f) m
       → (a ≡ b) × (e ≡ f) × (l ≡ m)
-  pub close : (a b : CloseAnswer) (e f : StdEncoder) (l m : List ℕ) → AreBytes l → AreBytes m → told_closing (shutting a e) l ≡ told_closing (shutting b f) m
+  pub close : (a b : Result (BitPos × ByteCount) Refusal) (e f : StdEncoder) (l m : List ℕ) → AreBytes l → AreBytes m → told_closing (shutting a e) l ≡ told_closing (shutting b f) m
       → (a ≡ b) × (e ≡ f) × (l ≡ m)
   pub next : (a b : Step) (d e : StdDecoder) → told_next (answered a d) ≡ told_next (answered b e) → (a ≡ b) × (d ≡ e)
 
@@ -40,7 +41,7 @@ abbrev pub fault_of : HeldReader → ℕ → ℕ
 fault_of r num = field_fault 7 (length r.bytes.now) r.at.0 (width num)
 
 -- `held_reads`: after a read of num bits by a reader that was r, which has answered a and left the reader s
-pub record HeldRead (r s : HeldReader) (num : ℕ) (a : BitsAnswer) : Type 0 where
+pub record HeldRead (r s : HeldReader) (num : ℕ) (a : Result ℕ Refusal) : Type 0 where
   -- it holds the bytes that it held
   pub holds : s.bytes ≡ r.bytes
   -- it stands behind the field, so the next read goes on there
@@ -49,18 +50,18 @@ pub record HeldRead (r s : HeldReader) (num : ℕ) (a : BitsAnswer) : Type 0 whe
   -- refused, it is as it was
   pub stays : 0 < fault_of r num → (tell_bits a ≡ refused (fault_of r num)) × (s ≡ r)
   -- a peek before it answered the same
-  pub foreseen : (b : BitsAnswer) → tell_bits b ≡ (peek_of r.bytes.now r.at.0 num).0 → b ≡ a
+  pub foreseen : (b : Result ℕ Refusal) → tell_bits b ≡ (peek_of r.bytes.now r.at.0 num).0 → b ≡ a
 
 -- for all that meets what the call states
 abbrev pub HeldReads : Type 0
-HeldReads = (r s : HeldReader) (num : ℕ) (a : BitsAnswer) → told_held a s ≡ held_of r num → HeldRead r s num a
+HeldReads = (r s : HeldReader) (num : ℕ) (a : Result ℕ Refusal) → told_held a s ≡ held_of r num → HeldRead r s num a
 
 -- `refused_in_place`: the encoder's `refused_nothing`, for a state behind a reference: a refused point or close tells its number, and leaves that state
 -- and every byte as they were; l are the bytes before, m those after it
 pub record RefusedInPlace (l m : List ℕ) : Type 0 where
-  pub encode : (e f : StdEncoder) (p : Point) (a : EncodeAnswer) → told_encoded (offered a f) m ≡ encode_of 6 (encoder.view e) (length l) (bits l) p
+  pub encode : (e f : StdEncoder) (p : Point) (a : Result ⊤ Refusal) → told_encoded (offered a f) m ≡ encode_of 6 (encoder.view e) (length l) (bits l) p
       → 0 < point_fault 6 (encoder.view e) (length l) p → (tell_encode a ≡ refused (point_fault 6 (encoder.view e) (length l) p)) × (f ≡ e) × (m ≡ l)
-  pub close : (e f : StdEncoder) (a : CloseAnswer) → told_closing (shutting a f) m ≡ close_of 6 (encoder.view e) (length l) (bits l)
+  pub close : (e f : StdEncoder) (a : Result (BitPos × ByteCount) Refusal) → told_closing (shutting a f) m ≡ close_of 6 (encoder.view e) (length l) (bits l)
       → 0 < standing 6 (encoder.view e) (length l) → (tell_close a ≡ refused (standing 6 (encoder.view e) (length l))) × (f ≡ e) × (m ≡ l)
 
 abbrev pub RefusedInPlaces : Type 0

@@ -7,7 +7,7 @@ ghost use Rattle.decode.specs.Calls.{told_next, next_of};
 ghost use Rattle.lent.specs.Calls.{answered};
 
 use decode::StdDecoder;
-use decode::std_decoder::{Next, Step};
+use decode::std_decoder::{Decoded, Step};
 
 // The next answer: a point, the end or a refusal.
 pub fn next(decoder: &mut StdDecoder, buf: &[u8]) -> Step
@@ -21,12 +21,12 @@ pub fn next(decoder: &mut StdDecoder, buf: &[u8]) -> Step
 // ---- above the shape: plain parameters
 
 // Lends the decoder to `next`, and hands it back with the answer.
-pub fn next_lent(decoder: StdDecoder, buf: &[u8]) -> Next
+pub fn next_lent(decoder: StdDecoder, buf: &[u8]) -> Decoded<Step>
     ensures { told_next result ≡ next_of 6 (view decoder) (length buf.now) (bits buf.now) }
 {
     let mut state = decoder;
     let answer = next(&mut state, buf);
-    Next {
+    Decoded {
         answer,
         decoder: state,
     }

@@ -8,11 +8,12 @@ ghost use Rattle.encode.specs.Calls.{told_encoded, told_closing, encode_of, clos
 ghost use Rattle.lent.specs.Calls.{offered, shutting};
 
 use encode::StdEncoder;
-use encode::std_encoder::{CloseAnswer, Closing, EncodeAnswer, Encoded};
+use encode::std_encoder::Encoded;
 use point::Stored;
+use stream::{BitPos, ByteCount, Refusal};
 
 // Offers a point: 12, 13, then 2, then 3 or 4, then 1.
-pub fn encode(encoder: &mut StdEncoder, buf: &mut [u8], point: Stored) -> EncodeAnswer
+pub fn encode(encoder: &mut StdEncoder, buf: &mut [u8], point: Stored) -> Result<(), Refusal>
     ensures { told_encoded (offered result encoder.new) buf.new ≡ encode_of 6 (view encoder.old) (length buf.old) (bits buf.old) (point_of point) }
 {
     let e = StdEncoder::encode(*encoder, buf, point);
@@ -21,7 +22,7 @@ pub fn encode(encoder: &mut StdEncoder, buf: &mut [u8], point: Stored) -> Encode
 }
 
 // Closes the stream with the marker, for which room was kept: 12, then 13.
-pub fn close(encoder: &mut StdEncoder, buf: &mut [u8]) -> CloseAnswer
+pub fn close(encoder: &mut StdEncoder, buf: &mut [u8]) -> Result<(BitPos, ByteCount), Refusal>
     ensures { told_closing (shutting result encoder.new) buf.new ≡ close_of 6 (view encoder.old) (length buf.old) (bits buf.old) }
 {
     let c = StdEncoder::close(*encoder, buf);
@@ -32,7 +33,7 @@ pub fn close(encoder: &mut StdEncoder, buf: &mut [u8]) -> CloseAnswer
 // ---- above the shape: plain parameters
 
 // Lends the encoder to `encode`, and hands it back with the answer.
-pub fn encode_lent(encoder: StdEncoder, buf: &mut [u8], point: Stored) -> Encoded
+pub fn encode_lent(encoder: StdEncoder, buf: &mut [u8], point: Stored) -> Encoded<()>
     ensures { told_encoded result buf.new ≡ encode_of 6 (view encoder) (length buf.old) (bits buf.old) (point_of point) }
 {
     let mut state = encoder;
@@ -44,12 +45,12 @@ pub fn encode_lent(encoder: StdEncoder, buf: &mut [u8], point: Stored) -> Encode
 }
 
 // Lends the encoder to `close`, and hands it back with the answer.
-pub fn close_lent(encoder: StdEncoder, buf: &mut [u8]) -> Closing
+pub fn close_lent(encoder: StdEncoder, buf: &mut [u8]) -> Encoded<(BitPos, ByteCount)>
     ensures { told_closing result buf.new ≡ close_of 6 (view encoder) (length buf.old) (bits buf.old) }
 {
     let mut state = encoder;
     let answer = close(&mut state, buf);
-    Closing {
+    Encoded {
         answer,
         encoder: state,
     }

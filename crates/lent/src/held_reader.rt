@@ -1,12 +1,10 @@
 // A reader that holds its bytes, as the Rust's `BufferedReader` does; here they are lent. The reading is done by the one bit reader.
 
 ghost use Rattle.std.specs.Prelude.{◌≡◌};
-ghost use Rattle.stream.specs.Calls.{tell_bits, read_of, peek_of};
+ghost use Rattle.stream.specs.Calls.{tell_bits, peek_of};
 ghost use Rattle.lent.specs.Calls.{told_held, held_of, told_two, two_of};
-ghost use Rattle.lent.specs.Parts.{told_placed};
 
-use stream::buffered_read::BitsAnswer;
-use stream::{BitPos, BufferedReader};
+use stream::{BitPos, BufferedReader, Refusal};
 
 // The lent bytes, and where the next bit comes from.
 #[derive(Clone, Copy)]
@@ -18,40 +16,10 @@ pub struct HeldReader<'a> {
 // What two reads by one reader answer, and where it stands after them.
 #[derive(Clone, Copy)]
 pub struct TwoReads {
-    pub first: BitsAnswer,
-    pub second: BitsAnswer,
+    pub first: Result<u64, Refusal>,
+    pub second: Result<u64, Refusal>,
     pub at: BitPos,
 }
-
-// ---- below the shape: the one bit reader, on a slice and a place
-
-// What a read answers, and the place after it: behind the field, or where it was if the read was refused.
-#[derive(Clone, Copy)]
-struct Placed {
-    answer: BitsAnswer,
-    at: BitPos,
-}
-
-// Reads num bits at a place.
-fn bits_at(bytes: &[u8], at: BitPos, num: u32) -> Placed
-    ensures { told_placed result ≡ read_of bytes.now at.0 num }
-{
-    let f = BufferedReader::at(at).read_bits(bytes, num);
-    let answer = f.answer;
-    let behind = f.reader.position();
-    Placed { answer, at: behind }
-}
-
-// A peek at a place: what `bits_at` would answer.
-fn peak_at(bytes: &[u8], at: BitPos, num: u32) -> BitsAnswer
-    ensures { tell_bits result ≡ (peek_of bytes.now at.0 num).0 }
-{
-    let f = BufferedReader::at(at).peak_bits(bytes, num);
-    let answer = f.answer;
-    answer
-}
-
-// ---- the shape
 
 impl<'a> HeldReader<'a> {
     // A reader at the first bit of the bytes.
@@ -77,26 +45,27 @@ impl<'a> HeldReader<'a> {
     }
 
     // Reads num bits as a number, the highest first, and moves behind them; more than 64 are 64. A refused read does not move.
-    pub fn read_bits(&mut self, num: u32) -> BitsAnswer
+    pub fn read_bits(&mut self, num: u32) -> Result<u64, Refusal>
         ensures { told_held result self.new ≡ held_of self.old num }
     {
-        let f = bits_at(self.bytes, self.at, num);
-        self.at = f.at;
+        let f = BufferedReader::at(self.at).read_bits(self.bytes, num);
+        self.at = f.reader.position();
         f.answer
     }
 
     // What read_bits would answer. The reader is not lent, so it stays where it is.
-    pub fn peak_bits(self, num: u32) -> BitsAnswer
+    pub fn peak_bits(self, num: u32) -> Result<u64, Refusal>
         ensures { tell_bits result ≡ (peek_of self.entry.bytes.now self.entry.at.0 num).0 }
     {
-        peak_at(self.bytes, self.at, num)
+        let f = BufferedReader::at(self.at).peak_bits(self.bytes, num);
+        f.answer
     }
 }
 
 // ---- above the shape: plain parameters
 
 // What the first num bits are, by a reader made of the bytes.
-pub fn first_bits(bytes: &[u8], num: u32) -> BitsAnswer
+pub fn first_bits(bytes: &[u8], num: u32) -> Result<u64, Refusal>
     ensures { tell_bits result ≡ (peek_of bytes.now 0 num).0 }
 {
     HeldReader::new(bytes).peak_bits(num)
