@@ -6,54 +6,45 @@ use Prim.Native.Nat.{ℕ}
 use native.Mathlib.Omega.{arith}
 use lib.ListN.{length}
 use Rattle.stream.specs.Bits.{bytes_for}
+use Rattle.std.specs.Prelude.{Ok, Err, Some, None, ⊤}
+use Rattle.std.specs.declared.option.Option.{Option}
+use Rattle.std.specs.declared.result.Result.{Result}
+use Rattle.std.specs.Result.{result_unwrap_or}
 use Rattle.stream.specs.Refusals.{number_of}
+use Rattle.stream.specs.Fits.{fault_of}
 use Rattle.stream.specs.Calls.{Told}
 use Rattle.stream.specs.declared.refusal.Refusal.{Refusal}
 use Rattle.stream.specs.declared.position.BitPos.{BitPos}
 use Rattle.stream.specs.declared.position.ByteCount.{ByteCount}
-use Rattle.point.specs.declared.Stored.{Stored}
 use Rattle.layout.specs.Writing.{Point}
 use Rattle.layout.specs.Answers.{Answer, a_point, an_end, refusal}
-use Rattle.encode.specs.declared.std_encoder.EncodeAnswer.{EncodeAnswer}
-use Rattle.encode.specs.declared.std_encoder.EncodeAnswer.TheVariants as encode
-use Rattle.encode.specs.declared.std_encoder.CloseAnswer.{CloseAnswer}
-use Rattle.encode.specs.declared.std_encoder.CloseAnswer.TheVariants as close
 use Rattle.encode.specs.States.{Enc}
 use Rattle.encode.specs.Calls as encoder
 use Rattle.encode.specs.Lists.{Packing, on_told, packs_of}
 use Rattle.decode.specs.declared.std_decoder.Step.{Step}
-use Rattle.decode.specs.declared.std_decoder.Step.TheVariants as step
 use Rattle.decode.specs.States.{tell, Dec}
 use Rattle.decode.specs.Calls as decoder
-use Rattle.decode.specs.declared.std_decoder.unpack.UnpackAnswer.{UnpackAnswer}
-use Rattle.decode.specs.declared.std_decoder.unpack.UnpackAnswer.TheVariants as answer
 use Rattle.decode.specs.Lists.{Stop, full, said, tell_stop, Unpacking, behind, on_point, Filling, filling, unpacks_of, fills_of}
 use Rattle.tsz.specs.Files.{saying, fault_in, used_in, PackLeaves, closing, packed_of, saying_at, answer_behind, telling, unpacked_of}
 
 -- ---- what is said
 
-pub said_is : (r k b q n m : ℕ) → b ≡ q → n ≡ m → m ≡ bytes_for q → (r ∷ k ∷ b ∷ n ∷ []) ≡ saying r k q
+pub said_is : (r k q n : ℕ) → n ≡ bytes_for q → (r ∷ k ∷ q ∷ n ∷ []) ≡ saying r k q
 unfolding saying
-said_is r k b q n m e f g = rw (e, f, g)
+said_is r k q n e = rw e
 
-module _ (a : EncodeAnswer) where
-  pub fault_none : a ≡ encode.Done → 0 ≡ fault_in (encoder.tell_encode a)
-  unfolding fault_in
-  fault_none e = sym (ap (λ (b : EncodeAnswer). fault_in (encoder.tell_encode b)) e)
+-- the refusal in an answer is that of the result
+pub fault_is : (a : Result ⊤ Refusal) → fault_of a ≡ fault_in (encoder.tell_encode a)
+unfolding fault_in
+fault_is (Ok done) = refl
+fault_is (Err r) = refl
 
-  pub fault_some : (r : Refusal) (n : ℕ) → a ≡ encode.Refused r → n ≡ number_of r → n ≡ fault_in (encoder.tell_encode a)
-  unfolding fault_in
-  fault_some r n e f = f ∙ sym (ap (λ (b : EncodeAnswer). fault_in (encoder.tell_encode b)) e)
-
-module _ (a : CloseAnswer) (r k : ℕ) where
-  pub used_said : (b : BitPos) (n : ByteCount) (x y : ℕ) → a ≡ close.Used b n → x ≡ b.0 → y ≡ n.0
-      → (r ∷ k ∷ x ∷ y ∷ []) ≡ r ∷ k ∷ used_in (encoder.tell_close a)
-  unfolding used_in
-  used_said b n x y e f g = rw (e, f, g)
-
-  pub none_said : (w : Refusal) → a ≡ close.Refused w → (r ∷ k ∷ 0 ∷ 0 ∷ []) ≡ r ∷ k ∷ used_in (encoder.tell_close a)
-  unfolding used_in
-  none_said w e = rw e
+-- what a close tells to be in use; zeros where it was refused
+pub used_said : (f k : ℕ) (a : Result (BitPos × ByteCount) Refusal) (z : BitPos × ByteCount) (b : BitPos) (n : ByteCount) → z ≡ result_unwrap_or a (b, n)
+    → b.0 ≡ 0 → n.0 ≡ 0 → (f ∷ k ∷ z.0.0 ∷ z.1.0 ∷ []) ≡ f ∷ k ∷ used_in (encoder.tell_close a)
+unfolding used_in
+used_said f k (Ok u) z b n e h j = λ i. f ∷ k ∷ (e i).0.0 ∷ (e i).1.0 ∷ []
+used_said f k (Err w) z b n e h j = rw (e, h, j)
 
 -- ---- packing
 
@@ -68,14 +59,16 @@ closes s f k n m a u e e' bs bs' o q c d h j =
     (ap (λ (z : encoder.Outcome). z.2) c')
     in x ∙ ap (closing 6 n) q
 
-module _ (s : List ℕ) (start n : ℕ) (a : EncodeAnswer) (e : Enc) (bs bs' : List Bool) (ps : List Point) (o : (encoder.tell_encode a, e, bs') ≡ encoder.open_of 6 start n bs) where
-  pub not_opened : (w : Refusal) (r q : ℕ) → a ≡ encode.Refused w → r ≡ number_of w → s ≡ saying r 0 q → q ≡ 0 → (s, bs') ≡ packed_of 6 start n bs ps
+module _ (s : List ℕ) (start n : ℕ) (e : Enc) (bs bs' : List Bool) (ps : List Point) where
+  pub not_opened : (w : Refusal) (q : ℕ) → (encoder.tell_encode (Err w), e, bs') ≡ encoder.open_of 6 start n bs → s ≡ saying (number_of w) 0 q → q ≡ 0
+      → (s, bs') ≡ packed_of 6 start n bs ps
   unfolding packed_of on_told fault_in
-  not_opened w r q z f h j = let o' = sym (ap (λ (b : EncodeAnswer). (encoder.tell_encode b, e, bs')) z) ∙ o in rw (← o', h, f, j)
+  not_opened w q o h j = rw (← o, h, j)
 
-  pub opened : (m : ℕ) (bs'' : List Bool) → a ≡ encode.Done → (s, bs'') ≡ closing 6 m (packs_of 6 e m bs' ps) → m ≡ n → (s, bs'') ≡ packed_of 6 start n bs ps
+  pub opened : (m : ℕ) (bs'' : List Bool) (u : ⊤) → (encoder.tell_encode (Ok u), e, bs') ≡ encoder.open_of 6 start n bs
+      → (s, bs'') ≡ closing 6 m (packs_of 6 e m bs' ps) → m ≡ n → (s, bs'') ≡ packed_of 6 start n bs ps
   unfolding packed_of on_told
-  opened m bs'' z h j = let o' = sym (ap (λ (b : EncodeAnswer). (encoder.tell_encode b, e, bs')) z) ∙ o in rw (← o') (rw j at h)
+  opened m bs'' u o h j = rw (← o) (rw j at h)
 
 pub passed_on : (w s : List ℕ) (bs : List Bool) (x : PackLeaves) → w ≡ s → ◌≡◌ {A = PackLeaves} (s, bs) x → ◌≡◌ {A = PackLeaves} (w, bs) x
 passed_on w s bs x e h = ap (λ (y : List ℕ). (y, bs)) e ∙ h
@@ -99,40 +92,27 @@ module _ (k q : ℕ) (d : Dec) where
   by_full (an_end p') t v p e = let z : ◌≡◌ {A = ℕ} 0 1 = cc in absurd (omega arith)
   by_full (refusal r) t v p e = let z : ◌≡◌ {A = ℕ} 0 1 = cc in absurd (omega arith)
 
-module _ (d : Dec) (n : ℕ) (bs : List Bool) (i : ℕ) (a : UnpackAnswer) (d' : Dec) (us ws ts vs : List ℕ)
+module _ (d : Dec) (n : ℕ) (bs : List Bool) (i : ℕ) (a : Option Step) (d' : Dec) (us ws ts vs : List ℕ)
     (e : (i, tell_stop a, d', us, ws) ≡ fills_of 6 d n bs ts vs) (one : length ts ≡ 1) (also : length vs ≡ 1) where
   stop_here : tell_stop a ≡ stop_of (decoder.next_of 6 d n bs).0 (decoder.next_of 6 d n bs).1
   unfolding fills_of filling unpacks_of stop_of
   stop_here = ap (λ (f : Filling). f.1) e ∙ rw (one, also) refl
 
-  pub more_stop : (b : Step) → a ≡ answer.Stopped b → (k q : ℕ) → saying_at k q (tell b) ≡ saying_at k q (decoder.next_of 6 d n bs).0
+  pub more_stop : (b : Step) → a ≡ Some b → (k q : ℕ) → saying_at k q (tell b) ≡ saying_at k q (decoder.next_of 6 d n bs).0
   more_stop b z k q = by_stop k q _ (decoder.next_of 6 d n bs).0 b (sym (ap tell_stop z) ∙ stop_here)
 
-  pub more_full : (t v p : ℕ) → a ≡ answer.Full → (k q : ℕ) → saying_at k q (a_point t v p) ≡ saying_at k q (decoder.next_of 6 d n bs).0
+  pub more_full : (t v p : ℕ) → a ≡ None → (k q : ℕ) → saying_at k q (a_point t v p) ≡ saying_at k q (decoder.next_of 6 d n bs).0
   more_full t v p z k q = by_full k q _ (decoder.next_of 6 d n bs).0 t v p (sym (ap tell_stop z) ∙ stop_here)
 
-module _ (a : UnpackAnswer) (d : Dec) (n : ℕ) (bs : List Bool) (k q : ℕ) where
-  pub behind_stop : (b : Step) → a ≡ answer.Stopped b → saying_at k q (tell b) ≡ saying_at k q (answer_behind 6 (tell_stop a) d n bs)
+module _ (a : Option Step) (d : Dec) (n : ℕ) (bs : List Bool) (k q : ℕ) where
+  pub behind_stop : (b : Step) → a ≡ Some b → saying_at k q (tell b) ≡ saying_at k q (answer_behind 6 (tell_stop a) d n bs)
   unfolding answer_behind
   behind_stop b e = rw e
 
-  pub behind_full : (b : Answer) → saying_at k q b ≡ saying_at k q (decoder.next_of 6 d n bs).0 → a ≡ answer.Full
+  pub behind_full : (b : Answer) → saying_at k q b ≡ saying_at k q (decoder.next_of 6 d n bs).0 → a ≡ None
       → saying_at k q b ≡ saying_at k q (answer_behind 6 (tell_stop a) d n bs)
   unfolding answer_behind
   behind_full b h e = rw e h
-
-module _ (s : List ℕ) (k q : ℕ) (a : Step) where
-  pub said_end : (b : BitPos) → s ≡ saying 0 k b.0 → a ≡ step.End b → s ≡ saying_at k q (tell a)
-  unfolding saying_at
-  said_end b h e = rw e h
-
-  pub said_refusal : (w : Refusal) (r : ℕ) → s ≡ saying r k q → a ≡ step.Refused w → r ≡ number_of w → s ≡ saying_at k q (tell a)
-  unfolding saying_at
-  said_refusal w r h e f = rw e (rw f at h)
-
-  pub said_short : (p : Stored) (b : BitPos) → s ≡ saying 1 k q → a ≡ step.Point p b → s ≡ saying_at k q (tell a)
-  unfolding saying_at
-  said_short p b h e = rw e h
 
 pub unpacked : (w s : List ℕ) (k q n : ℕ) (a : Answer) (t : Stop) (u : Told) (d d' : Dec) (bs : List Bool) (ts ts' vs vs' : List ℕ)
     → (u, d) ≡ decoder.open_of n → (k, t, d', ts', vs') ≡ fills_of 6 d n bs ts vs → ((i j : ℕ) → saying_at i j a ≡ saying_at i j (answer_behind 6 t d' n bs)) → q ≡ d'.at → s ≡ saying_at k q a → w ≡ s

@@ -2,6 +2,7 @@
 -- that were lent.
 use Rattle.std.specs.Prelude.{Bool, List, [], ◌∷◌, ℕ}
 use Rattle.stream.specs.Bits.{bytes_for}
+use Rattle.stream.specs.Fits.{fault_of}
 use Rattle.stream.specs.Calls.{Told, given, refused}
 use Rattle.layout.specs.Writing.{Point}
 use Rattle.layout.specs.Answers.{Answer, a_point, an_end, refusal}
@@ -15,7 +16,7 @@ use Rattle.decode.specs.Lists.{Stop, full, said, Filling, fills_of}
 -- ---- the four numbers said: the refusal, 0 for none; the points; the bits, and the bytes that hold them
 
 abbrev pub said_of : Said → List ℕ
-said_of s = s.refusal ∷ s.points ∷ s.bits ∷ s.bytes ∷ []
+said_of s = fault_of s.outcome ∷ s.points ∷ s.bits.0 ∷ s.bytes.0 ∷ []
 
 -- r, k points and q bits
 unfoldable pub saying : ℕ → ℕ → ℕ → List ℕ

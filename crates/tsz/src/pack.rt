@@ -3,42 +3,29 @@
 ghost use Rattle.std.specs.Prelude.{◌≡◌, ◌∷◌, length};
 ghost use Rattle.stream.specs.Bits.{bits};
 ghost use Rattle.encode.specs.States.{view};
-ghost use Rattle.encode.specs.Calls.{tell_encode, tell_close};
+ghost use Rattle.stream.specs.Fits.{fault_of};
+ghost use Rattle.encode.specs.Calls.{tell_close};
 ghost use Rattle.encode.specs.Lists.{pairs, packs_of};
-ghost use Rattle.tsz.specs.Files.{said_of, fault_in, used_in, closing, packed_of};
+ghost use Rattle.tsz.specs.Files.{said_of, used_in, closing, packed_of};
 
-use super::said::{Said, said_at, say};
-use encode::std_encoder::{CloseAnswer, EncodeAnswer};
+use super::said::{Said, say};
 use encode::{StdEncoder, pack_some};
-use stream::BitPos;
-
-// The refusal in an answer, 0 for none.
-fn fault(answer: EncodeAnswer) -> u64
-    ensures { result ≡ fault_in (tell_encode answer) }
-{
-    match answer {
-        EncodeAnswer::Done => 0,
-        EncodeAnswer::Refused(why) => why.number() as u64,
-    }
-}
+use stream::{BitPos, ByteCount, Refusal};
 
 // What is said after a close; one that was opened is never refused its close.
-fn said_closed(refusal: u64, points: usize, answer: CloseAnswer) -> Said
-    ensures { said_of result ≡ refusal ∷ points ∷ used_in (tell_close answer) }
+fn said_closed(
+    outcome: Result<(), Refusal>,
+    points: usize,
+    closed: Result<(BitPos, ByteCount), Refusal>,
+) -> Said
+    ensures { said_of result ≡ fault_of outcome ∷ points ∷ used_in (tell_close closed) }
 {
-    match answer {
-        CloseAnswer::Used(b, n) => Said {
-            refusal,
-            points: points as u64,
-            bits: b.get() as u64,
-            bytes: n.get() as u64,
-        },
-        CloseAnswer::Refused(_) => Said {
-            refusal,
-            points: points as u64,
-            bits: 0,
-            bytes: 0,
-        },
+    let (bits, bytes) = closed.unwrap_or((BitPos::new(0), ByteCount::new(0)));
+    Said {
+        outcome,
+        points,
+        bits,
+        bytes,
     }
 }
 
@@ -47,12 +34,9 @@ fn pack_and_close(encoder: StdEncoder, times: &[u64], values: &[u64], out: &mut 
     ensures { (said_of result, bits out.new) ≡ closing 6 (length out.old) (packs_of 6 (view encoder) (length out.old) (bits out.old) (pairs times.now values.now)) }
 {
     let packed = pack_some(encoder, out, times, values);
-    let last = packed.encoder;
-    let answer = packed.answer;
+    let last = packed.last.encoder;
     let closed = last.close(out);
-    let used = closed.answer;
-    let refusal = fault(answer);
-    said_closed(refusal, packed.accepted, used)
+    said_closed(packed.last.answer, packed.accepted, closed.answer)
 }
 
 // Opens, packs and closes.
@@ -60,14 +44,9 @@ fn pack(start: u64, times: &[u64], values: &[u64], out: &mut [u8]) -> Said
     ensures { (said_of result, bits out.new) ≡ packed_of 6 start (length out.old) (bits out.old) (pairs times.now values.now) }
 {
     let opened = StdEncoder::open(start, out);
-    let answer = opened.answer;
-    let encoder = opened.encoder;
-    match answer {
-        EncodeAnswer::Refused(why) => {
-            let refusal = why.number() as u64;
-            said_at(refusal, 0, BitPos::new(0))
-        }
-        EncodeAnswer::Done => pack_and_close(encoder, times, values, out),
+    match opened.answer {
+        Err(why) => Said::at(Err(why), 0, BitPos::new(0)),
+        Ok(()) => pack_and_close(opened.encoder, times, values, out),
     }
 }
 

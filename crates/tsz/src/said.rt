@@ -1,29 +1,41 @@
 // What a call says.
 
 ghost use Rattle.std.specs.Prelude.{◌≡◌};
+ghost use Rattle.stream.specs.Fits.{fault_of};
 ghost use Rattle.tsz.specs.Files.{said_of, saying};
 
-use stream::BitPos;
+use stream::{BitPos, ByteCount, Refusal};
 
-// The refusal's number or 0, the points, the bits, and the bytes that hold them.
+// What was refused, if anything was; the points, the bits, and the bytes that hold them.
 #[derive(Clone, Copy)]
 pub(super) struct Said {
-    pub refusal: u64,
-    pub points: u64,
-    pub bits: u64,
-    pub bytes: u64,
+    pub outcome: Result<(), Refusal>,
+    pub points: usize,
+    pub bits: BitPos,
+    pub bytes: ByteCount,
 }
 
-// The bytes follow from the bits.
-pub(super) fn said_at(refusal: u64, points: usize, at: BitPos) -> Said
-    ensures { said_of result ≡ saying refusal points at.0 }
+impl Said {
+    // The bytes follow from the bits.
+    pub(super) fn at(outcome: Result<(), Refusal>, points: usize, bits: BitPos) -> Said
+        ensures { said_of result ≡ saying (fault_of outcome) points bits.0 }
+    {
+        Said {
+            outcome,
+            points,
+            bits,
+            bytes: ByteCount::from(bits),
+        }
+    }
+}
+
+// The number of a refusal, 0 for none: C has no Result.
+fn number_in(outcome: Result<(), Refusal>) -> u64
+    ensures { result ≡ fault_of outcome }
 {
-    let bytes = at.to_bytes();
-    Said {
-        refusal,
-        points: points as u64,
-        bits: at.get() as u64,
-        bytes: bytes.get() as u64,
+    match outcome {
+        Ok(()) => 0,
+        Err(why) => u64::from(why.number()),
     }
 }
 
@@ -31,5 +43,11 @@ pub(super) fn said_at(refusal: u64, points: usize, at: BitPos) -> Said
 pub(super) fn say(said: &mut [u64; 4], s: Said)
     ensures { said.new ≡ said_of s }
 {
-    *said = [s.refusal, s.points, s.bits, s.bytes];
+    let refusal = number_in(s.outcome);
+    *said = [
+        refusal,
+        s.points as u64,
+        s.bits.get() as u64,
+        s.bytes.get() as u64,
+    ];
 }

@@ -7,12 +7,11 @@ ghost use Rattle.decode.specs.Calls.{next_of};
 ghost use Rattle.decode.specs.Lists.{tell_stop};
 ghost use Rattle.tsz.specs.Files.{said_of, saying_at, answer_behind, unpacked_of};
 
-use super::said::{Said, said_at, say};
+use super::said::{Said, say};
 use decode::std_decoder::Step;
-use decode::std_decoder::unpack::UnpackAnswer;
 use decode::{StdDecoder, unpack_some};
 use point::Stored;
-use stream::BitPos;
+use stream::{BitPos, Refusal};
 
 // The next answer; where that is a point, some point stands for it. It is asked for by the call over lists once more: with a second place that calls a step,
 // the compiler would no longer build the step into that call's loop.
@@ -22,34 +21,30 @@ fn one_more(decoder: StdDecoder, src: &[u8]) -> Step
     let mut times = [0u64; 1];
     let mut values = [0u64; 1];
     let more = unpack_some(decoder, src, &mut times, &mut values);
-    let answer = more.answer;
-    match answer {
-        UnpackAnswer::Stopped(step) => step,
-        UnpackAnswer::Full => Step::Point(Stored { time: 0, bits: 0 }, BitPos::new(0)),
+    match more.answer {
+        Some(step) => step,
+        None => Step::Point(Stored { time: 0, bits: 0 }, BitPos::new(0)),
     }
 }
 
 // The answer behind the points given; where the lists are full, one step more is asked.
-fn answer_behind(answer: UnpackAnswer, decoder: StdDecoder, src: &[u8]) -> Step
+fn answer_behind(answer: Option<Step>, decoder: StdDecoder, src: &[u8]) -> Step
     ensures { (k q : ℕ) → saying_at k q (tell result) ≡ saying_at k q (answer_behind 6 (tell_stop answer) (view decoder) (length src.now) (bits src.now)) }
 {
     match answer {
-        UnpackAnswer::Stopped(step) => step,
-        UnpackAnswer::Full => one_more(decoder, src),
+        Some(step) => step,
+        None => one_more(decoder, src),
     }
 }
 
-// What is said of points and the answer behind them.
+// What is said of points and the answer behind them. For a point more there is no room in the lists.
 fn said_behind(points: usize, at: BitPos, answer: Step) -> Said
     ensures { said_of result ≡ saying_at points at.0 (tell answer) }
 {
     match answer {
-        Step::End(end) => said_at(0, points, end),
-        Step::Refused(why) => {
-            let refusal = why.number() as u64;
-            said_at(refusal, points, at)
-        }
-        Step::Point(_, _) => said_at(1, points, at),
+        Step::End(end) => Said::at(Ok(()), points, end),
+        Step::Refused(why) => Said::at(Err(why), points, at),
+        Step::Point(_, _) => Said::at(Err(Refusal::NoRoom), points, at),
     }
 }
 

@@ -1,8 +1,5 @@
-use Rattle.tsz.proofs.FileLaws.{used_said, none_said}
+use Rattle.tsz.proofs.FileLaws.{used_said}
 use Rattle.tsz.proofs.pack.said_closed.Goals as goal
 
-pub returns-in-Used : goal.returns-in-Used
-returns-in-Used c = used_said _ _ _ _ _ _ _ c.in-Used.is c.get.ensures c.get-in-Used.ensures
-
-pub returns-in-Refused : goal.returns-in-Refused
-returns-in-Refused c = none_said _ _ _ _ c.in-Refused.is
+pub returns : goal.returns
+returns c = used_said _ _ _ _ _ _ c.unwrap_or.ensures c.new.ensures c.new-2.ensures
