@@ -38,16 +38,14 @@ impl fmt::Display for Fault {
     }
 }
 
-// What was read of a line.
+// What was read of a line, and no carriage return.
 #[derive(Clone, Copy)]
-enum Part {
+pub(super) enum Part {
     Nothing,
-    // digits of the time, and their number
+    // digits of the time, as a number
     Time(u64),
-    // all before the comma, and as many digits behind it as `digits` says, whose number is the point's bits so far
+    // the time, the comma, and so many digits of the value, as the point's bits
     Value { point: Stored, digits: u32 },
-    // all before a carriage return, which only a line feed may follow: the point that it is, or what is wrong with it
-    Returned(Result<Stored, Fault>),
 }
 
 // n with b behind it, if b is a digit and the number is below 2^64.
@@ -57,22 +55,14 @@ pub(super) fn with_decimal(n: u64, b: u8) -> Result<u64, Fault> {
     tens.checked_add(u64::from(d)).ok_or(Fault::Above)
 }
 
-// The value with one digit more.
-fn with_hex(point: Stored, digits: u32, b: u8) -> Result<Part, Fault> {
+// The bits with a hex digit of either case behind them.
+fn with_hex(bits: u64, b: u8) -> Result<u64, Fault> {
     let d = char::from(b).to_digit(16).ok_or(Fault::NoValue)?;
-    if DIGITS <= digits {
-        return Err(Fault::NoValue);
-    }
-    let point = Stored {
-        time: point.time,
-        bits: (point.bits << 4) | u64::from(d),
-    };
-    let digits = digits + 1;
-    Ok(Part::Value { point, digits })
+    Ok((bits << 4) | u64::from(d))
 }
 
 impl Part {
-    // With a byte more, which ends no line.
+    // With a byte more, which is no part of the line's end.
     fn with(self, b: u8) -> Result<Part, Fault> {
         match self {
             Part::Nothing if b == b',' => Err(Fault::NoTime),
@@ -82,35 +72,40 @@ impl Part {
                 Ok(Part::Value { point, digits: 0 })
             }
             Part::Time(time) => Ok(Part::Time(with_decimal(time, b)?)),
-            Part::Value { point, digits } => with_hex(point, digits, b),
-            Part::Returned(_) => Err(Fault::Return),
+            Part::Value { digits, .. } if DIGITS <= digits => Err(Fault::NoValue),
+            Part::Value { point, digits } => {
+                let bits = with_hex(point.bits, b)?;
+                let point = Stored { bits, ..point };
+                let digits = digits + 1;
+                Ok(Part::Value { point, digits })
+            }
         }
     }
 
-    // The point that it is, if nothing follows.
+    // The point that it is.
     fn whole(self) -> Result<Stored, Fault> {
         match self {
             Part::Nothing => Err(Fault::Empty),
             Part::Time(_) => Err(Fault::NoComma),
             Part::Value { point, digits } if digits == DIGITS => Ok(point),
             Part::Value { .. } => Err(Fault::NoValue),
-            Part::Returned(whole) => whole,
         }
     }
 }
 
 // A line up to where it was read.
 #[derive(Clone, Copy)]
-pub(super) struct Line {
-    // how many bytes, without a carriage return at the end
-    len: u32,
-    part: Part,
+pub(super) enum Line {
+    // so many bytes, and what they are
+    Open { len: u32, part: Part },
+    // behind a carriage return, which only a line feed may follow: the point before it, or what is wrong with the line
+    Returned(Result<Stored, Fault>),
 }
 
 impl Line {
     // Before the first byte.
     pub(super) fn new() -> Line {
-        Line {
+        Line::Open {
             len: 0,
             part: Part::Nothing,
         }
@@ -118,37 +113,43 @@ impl Line {
 
     // The line with a byte more, which is no line feed.
     pub(super) fn with(self, b: u8) -> Result<Line, Fault> {
-        if let Part::Returned(_) = self.part {
-            return Err(Fault::Return);
+        match self {
+            Line::Returned(_) => Err(Fault::Return),
+            // perhaps a part of the line's end
+            Line::Open { part, .. } if b == b'\r' => Ok(Line::Returned(part.whole())),
+            Line::Open { len, .. } if LONGEST <= len => Err(Fault::TooLong),
+            Line::Open { len, part } => {
+                let len = len + 1;
+                let part = part.with(b)?;
+                Ok(Line::Open { len, part })
+            }
         }
-        // perhaps a part of the line's end
-        if b == b'\r' {
-            let part = Part::Returned(self.end());
-            return Ok(Line { part, ..self });
-        }
-        if LONGEST <= self.len {
-            return Err(Fault::TooLong);
-        }
-        let len = self.len + 1;
-        let part = self.part.with(b)?;
-        Ok(Line { len, part })
     }
 
-    // The point that it is, at its line feed.
+    // The line at its line feed.
     pub(super) fn end(self) -> Result<Stored, Fault> {
-        self.part.whole()
+        match self {
+            Line::Open { part, .. } => part.whole(),
+            Line::Returned(whole) => whole,
+        }
     }
 
     // The line at the end of the input, where its line feed may be missing; but not behind a carriage return, where it may have been torn off.
     pub(super) fn last(self) -> Result<Stored, Fault> {
-        match self.part {
-            Part::Returned(_) => Err(Fault::Return),
-            part => part.whole(),
+        match self {
+            Line::Open { part, .. } => part.whole(),
+            Line::Returned(_) => Err(Fault::Return),
         }
     }
 
     // Whether no byte of it was read, so that at the end of the input there is no such line.
     pub(super) fn is_blank(self) -> bool {
-        matches!(self.part, Part::Nothing)
+        matches!(
+            self,
+            Line::Open {
+                part: Part::Nothing,
+                ..
+            }
+        )
     }
 }

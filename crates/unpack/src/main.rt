@@ -17,6 +17,7 @@ const LIMIT: usize = 65_536;
 // Reads until buf is full or the input ends, and answers what was read, or None for a longer input: where buf is full, one more read tells.
 fn read_input<'a>(input: &mut impl io::Read, buf: &'a mut [u8]) -> io::Result<Option<&'a [u8]>> {
     let mut n: usize = 0;
+    // by hand, since std's read_to_end fills a Vec, which would be heap, and read_exact does not tell how much came before an early end
     while n < buf.len() {
         let more = input.read(&mut buf[n..])?;
         if more == 0 {
@@ -31,7 +32,8 @@ fn read_input<'a>(input: &mut impl io::Read, buf: &'a mut [u8]) -> io::Result<Op
     Ok(None)
 }
 
-// Whether the program was started with a word. It is not read: one for which there is no room is there too.
+// Whether the program was started with a word. It is not read: one for which there is no room is there too. (pack asks the same of a second word.
+// One function for both would be a public call whose answer no clause of std's can name, and document 01 forbids those.)
 fn has_word(env: &impl Env) -> bool {
     !matches!(env.arg(1, &mut []), Err(FillError::NotPresent))
 }
@@ -43,8 +45,7 @@ fn main(rt: HostRuntime) {
         return;
     }
     let mut buf = [0u8; LIMIT];
-    let found = read_input(&mut rt.stdin(), &mut buf);
-    match found {
+    match read_input(&mut rt.stdin(), &mut buf) {
         Err(why) => failure::report(&rt, "unpack: standard input", why),
         Ok(None) => say::too_long(&rt),
         Ok(Some(s)) => points::unpack(&rt, s),

@@ -15,6 +15,7 @@ fn told(rt: &impl Print, s: &[u8]) -> io::Result<()> {
     let mut page = Page::new();
     // a decoder whose opening was refused answers that refusal at its first step
     let mut d = StdDecoder::open(s).decoder;
+    // no iterator over the steps would be plainer: the decoder goes by value (document 01), and the last line needs the count
     for points in 0..STEPS {
         page.make_room(rt)?;
         let next = d.next(s);
