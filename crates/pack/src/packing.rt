@@ -122,7 +122,7 @@ impl<'a> Packing<'a> {
         let Packing { buf, encoder, .. } = self;
         match encoder.close(buf).answer {
             CloseAnswer::Refused(why) => Err(why),
-            // they are never more than the buffer has
+            // never more than the buffer has; that is not proved here, and were it wrong, nothing would be written
             CloseAnswer::Used(_, bytes) => Ok(buf.get(..bytes.get()).unwrap_or(&[])),
         }
     }

@@ -9,7 +9,8 @@ fn number_of(text: &[u8]) -> Option<u64> {
     text.iter().try_fold(0, |n, b| with_decimal(n, *b)).ok()
 }
 
-// Whether the program was started with a second word. It is not read: one for which there is no room is there too.
+// Whether the program was started with a second word. It is not read: one for which there is no room is there too. (Not one function with unpack's
+// `has_word`, for the reason given there.)
 fn has_second(env: &impl Env) -> bool {
     !matches!(env.arg(2, &mut []), Err(FillError::NotPresent))
 }
