@@ -2,6 +2,7 @@
 // the numbers, so its length costs no room. The first byte that is wrong ends it.
 
 use point::Stored;
+use std::fmt;
 
 // More than a line needs. A longer one is no point, so that one without an end is not read for ever.
 const LONGEST: u32 = 1000;
@@ -22,173 +23,133 @@ pub(super) enum Fault {
     TooLong,
 }
 
-// What was read of a line.
-#[derive(Clone, Copy)]
-pub(super) struct Line {
-    // how many bytes
-    len: u32,
-    // behind the comma
-    valued: bool,
-    time: u64,
-    bits: u64,
-    // how many digits of the value
-    digits: u32,
-    // behind a carriage return, which only a line feed may follow
-    returned: bool,
+impl fmt::Display for Fault {
+    fn fmt<W: fmt::Write>(&self, f: &mut fmt::Formatter<W>) -> fmt::Result {
+        f.write_str(match self {
+            Fault::Empty => "the line is empty",
+            Fault::NoDigit => "a byte before the comma is no digit",
+            Fault::NoTime => "no time before the comma",
+            Fault::Above => "the time is above 18446744073709551615",
+            Fault::NoComma => "no comma",
+            Fault::NoValue => "the value is not 16 hex digits",
+            Fault::Return => "a carriage return that no line feed follows",
+            Fault::TooLong => "too long",
+        })
+    }
 }
 
-// A line with one byte more, or what is wrong with it.
+// What was read of a line, and no carriage return.
 #[derive(Clone, Copy)]
-pub(super) enum Read {
-    Part(Line),
-    Wrong(Fault),
-}
-
-// A line at its end: the point that it is, or what is wrong with it.
-#[derive(Clone, Copy)]
-pub(super) enum Whole {
-    Point(Stored),
-    Wrong(Fault),
-}
-
-// A number with one decimal digit more.
-#[derive(Clone, Copy)]
-pub(super) enum Sum {
-    Number(u64),
-    Above,
-    NoDigit,
+pub(super) enum Part {
+    Nothing,
+    // digits of the time, as a number
+    Time(u64),
+    // the time, the comma, and so many digits of the value, as the point's bits
+    Value { point: Stored, digits: u32 },
 }
 
 // n with b behind it, if b is a digit and the number is below 2^64.
-pub(super) fn with_decimal(n: u64, b: u8) -> Sum {
-    if b < b'0' {
-        return Sum::NoDigit;
-    }
-    if b'9' < b {
-        return Sum::NoDigit;
-    }
-    let d = (b - b'0') as u64;
-    if 1_844_674_407_370_955_161 < n {
-        return Sum::Above;
-    }
-    let tens = 10 * n;
-    if u64::MAX - tens < d {
-        return Sum::Above;
-    }
-    Sum::Number(tens + d)
+pub(super) fn with_decimal(n: u64, b: u8) -> Result<u64, Fault> {
+    let d = char::from(b).to_digit(10).ok_or(Fault::NoDigit)?;
+    let tens = n.checked_mul(10).ok_or(Fault::Above)?;
+    tens.checked_add(u64::from(d)).ok_or(Fault::Above)
 }
 
-// The number of a hex digit of either case; 16 for any other byte.
-fn hex_digit(b: u8) -> u64 {
-    match b {
-        b'0'..=b'9' => (b - b'0') as u64,
-        b'a'..=b'f' => (b - b'a') as u64 + 10,
-        b'A'..=b'F' => (b - b'A') as u64 + 10,
-        _ => 16,
-    }
+// The bits with a hex digit of either case behind them.
+fn with_hex(bits: u64, b: u8) -> Result<u64, Fault> {
+    let d = char::from(b).to_digit(16).ok_or(Fault::NoValue)?;
+    Ok((bits << 4) | u64::from(d))
 }
 
-// The time with one digit more.
-fn with_digit(line: Line, b: u8) -> Read {
-    let sum = with_decimal(line.time, b);
-    match sum {
-        Sum::NoDigit => Read::Wrong(Fault::NoDigit),
-        Sum::Above => Read::Wrong(Fault::Above),
-        Sum::Number(time) => {
-            let mut longer = line;
-            longer.time = time;
-            Read::Part(longer)
+impl Part {
+    // With a byte more, which is no part of the line's end.
+    fn with(self, b: u8) -> Result<Part, Fault> {
+        match self {
+            Part::Nothing if b == b',' => Err(Fault::NoTime),
+            Part::Nothing => Ok(Part::Time(with_decimal(0, b)?)),
+            Part::Time(time) if b == b',' => {
+                let point = Stored { time, bits: 0 };
+                Ok(Part::Value { point, digits: 0 })
+            }
+            Part::Time(time) => Ok(Part::Time(with_decimal(time, b)?)),
+            Part::Value { digits, .. } if DIGITS <= digits => Err(Fault::NoValue),
+            Part::Value { point, digits } => {
+                let bits = with_hex(point.bits, b)?;
+                let point = Stored { bits, ..point };
+                let digits = digits + 1;
+                Ok(Part::Value { point, digits })
+            }
+        }
+    }
+
+    // The point that it is.
+    fn whole(self) -> Result<Stored, Fault> {
+        match self {
+            Part::Nothing => Err(Fault::Empty),
+            Part::Time(_) => Err(Fault::NoComma),
+            Part::Value { point, digits } if digits == DIGITS => Ok(point),
+            Part::Value { .. } => Err(Fault::NoValue),
         }
     }
 }
 
-// The value with one digit more.
-fn with_hex(line: Line, b: u8) -> Read {
-    let d = hex_digit(b);
-    let n = line.digits;
-    if 15 < d {
-        return Read::Wrong(Fault::NoValue);
-    }
-    if DIGITS <= n {
-        return Read::Wrong(Fault::NoValue);
-    }
-    let mut longer = line;
-    longer.bits = (line.bits << 4) | d;
-    longer.digits = n + 1;
-    Read::Part(longer)
+// A line up to where it was read.
+#[derive(Clone, Copy)]
+pub(super) enum Line {
+    // so many bytes, and what they are
+    Open { len: u32, part: Part },
+    // behind a carriage return, which only a line feed may follow: the point before it, or what is wrong with the line
+    Returned(Result<Stored, Fault>),
 }
 
 impl Line {
     // Before the first byte.
     pub(super) fn new() -> Line {
-        Line {
+        Line::Open {
             len: 0,
-            valued: false,
-            time: 0,
-            bits: 0,
-            digits: 0,
-            returned: false,
+            part: Part::Nothing,
         }
     }
 
     // The line with a byte more, which is no line feed.
-    pub(super) fn with(self, b: u8) -> Read {
-        let n = self.len;
-        let mut longer = self;
-        if self.returned {
-            return Read::Wrong(Fault::Return);
+    pub(super) fn with(self, b: u8) -> Result<Line, Fault> {
+        match self {
+            Line::Returned(_) => Err(Fault::Return),
+            // perhaps a part of the line's end
+            Line::Open { part, .. } if b == b'\r' => Ok(Line::Returned(part.whole())),
+            Line::Open { len, .. } if LONGEST <= len => Err(Fault::TooLong),
+            Line::Open { len, part } => {
+                let len = len + 1;
+                let part = part.with(b)?;
+                Ok(Line::Open { len, part })
+            }
         }
-        // perhaps a part of the line's end
-        if b == b'\r' {
-            longer.returned = true;
-            return Read::Part(longer);
-        }
-        if LONGEST <= n {
-            return Read::Wrong(Fault::TooLong);
-        }
-        longer.len = n + 1;
-        if self.valued {
-            return with_hex(longer, b);
-        }
-        if b != b',' {
-            return with_digit(longer, b);
-        }
-        if n == 0 {
-            return Read::Wrong(Fault::NoTime);
-        }
-        longer.valued = true;
-        Read::Part(longer)
     }
 
     // The line at its line feed.
-    pub(super) fn end(self) -> Whole {
-        if self.len == 0 {
-            return Whole::Wrong(Fault::Empty);
+    pub(super) fn end(self) -> Result<Stored, Fault> {
+        match self {
+            Line::Open { part, .. } => part.whole(),
+            Line::Returned(whole) => whole,
         }
-        if !self.valued {
-            return Whole::Wrong(Fault::NoComma);
-        }
-        if self.digits != DIGITS {
-            return Whole::Wrong(Fault::NoValue);
-        }
-        let time = self.time;
-        let bits = self.bits;
-        Whole::Point(Stored { time, bits })
     }
 
     // The line at the end of the input, where its line feed may be missing; but not behind a carriage return, where it may have been torn off.
-    pub(super) fn last(self) -> Whole {
-        if self.returned {
-            return Whole::Wrong(Fault::Return);
+    pub(super) fn last(self) -> Result<Stored, Fault> {
+        match self {
+            Line::Open { part, .. } => part.whole(),
+            Line::Returned(_) => Err(Fault::Return),
         }
-        self.end()
     }
 
     // Whether no byte of it was read, so that at the end of the input there is no such line.
     pub(super) fn is_blank(self) -> bool {
-        if self.returned {
-            return false;
-        }
-        self.len == 0
+        matches!(
+            self,
+            Line::Open {
+                part: Part::Nothing,
+                ..
+            }
+        )
     }
 }

@@ -1,155 +1,129 @@
 // From the input's bytes to the encoder's calls. The input is read in pieces and never held whole.
 
-use super::lines::{Fault, Line, Read, Whole};
+use super::lines::{Fault, Line};
 use encode::StdEncoder;
-use encode::std_encoder::EncodeAnswer;
+use encode::std_encoder::{CloseAnswer, EncodeAnswer};
+use point::Stored;
 use std::io;
 use stream::Refusal;
 
 // How many bytes are read at once.
 const PIECE: usize = 65_536;
 
-// The encoder, the line that is read, and that line's number.
+// Why not all of the input was packed: a read failed, a line is no point, or its point was refused.
 #[derive(Clone, Copy)]
-pub(super) struct Packing {
-    pub(super) encoder: StdEncoder,
-    pub(super) line: Line,
-    pub(super) number: u64,
-}
-
-// How it stands: more is to be read, all was read, a read failed, the line is no point, or its point was refused.
-#[derive(Clone, Copy)]
-pub(super) enum Verdict {
-    Going,
-    Ended,
+pub(super) enum Stopped {
     Unread(io::Error),
     NoPoint(Fault),
     Refused(Refusal),
 }
 
-#[derive(Clone, Copy)]
-pub(super) struct Turn {
-    pub(super) verdict: Verdict,
-    pub(super) packing: Packing,
-}
-
-fn is_going(verdict: Verdict) -> bool {
-    matches!(verdict, Verdict::Going)
-}
-
-fn standing(verdict: Verdict, packing: Packing) -> Turn {
-    Turn { verdict, packing }
-}
-
-// The number of the next line. There are not so many lines that it stops growing.
-fn number_after(number: u64) -> u64 {
-    if number < u64::MAX {
-        return number + 1;
+impl From<io::Error> for Stopped {
+    fn from(why: io::Error) -> Stopped {
+        Stopped::Unread(why)
     }
-    number
 }
 
-// Offers the point of a whole line.
-fn with_line(p: Packing, buf: &mut [u8], whole: Whole) -> Turn {
-    match whole {
-        Whole::Wrong(fault) => standing(Verdict::NoPoint(fault), p),
-        Whole::Point(point) => {
-            let e = p.encoder;
-            let offered = e.encode(buf, point);
-            let answer = offered.answer;
-            let encoder = offered.encoder;
-            match answer {
-                EncodeAnswer::Refused(why) => standing(Verdict::Refused(why), p),
-                EncodeAnswer::Done => {
-                    let line = Line::new();
-                    let number = number_after(p.number);
-                    let packing = Packing {
-                        encoder,
-                        line,
-                        number,
-                    };
-                    standing(Verdict::Going, packing)
-                }
+impl From<Fault> for Stopped {
+    fn from(fault: Fault) -> Stopped {
+        Stopped::NoPoint(fault)
+    }
+}
+
+impl From<Refusal> for Stopped {
+    fn from(why: Refusal) -> Stopped {
+        Stopped::Refused(why)
+    }
+}
+
+// The encoder with the bytes lent to it, the line that is read, and that line's number.
+#[derive(Drop)]
+pub(super) struct Packing<'a> {
+    buf: &'a mut [u8],
+    encoder: StdEncoder,
+    line: Line,
+    number: u64,
+}
+
+impl<'a> Packing<'a> {
+    // Before the first line.
+    pub(super) fn open(start: u64, buf: &'a mut [u8]) -> Packing<'a> {
+        // an encoder whose opening was refused refuses every later call
+        let encoder = StdEncoder::open(start, buf).encoder;
+        Packing {
+            buf,
+            encoder,
+            line: Line::new(),
+            number: 1,
+        }
+    }
+
+    // The number of the line that is read, or that stopped it.
+    pub(super) fn number(&self) -> u64 {
+        self.number
+    }
+
+    // Offers the point of a whole line; the next line begins.
+    fn offer(&mut self, point: Stored) -> Result<(), Refusal> {
+        let offered = self.encoder.encode(self.buf, point);
+        if let EncodeAnswer::Refused(why) = offered.answer {
+            return Err(why);
+        }
+        self.encoder = offered.encoder;
+        self.line = Line::new();
+        // there are not so many lines that it stops growing
+        self.number = self.number.saturating_add(1);
+        Ok(())
+    }
+
+    fn take_byte(&mut self, b: u8) -> Result<(), Stopped> {
+        if b == b'\n' {
+            let point = self.line.end()?;
+            self.offer(point)?;
+        } else {
+            self.line = self.line.with(b)?;
+        }
+        Ok(())
+    }
+
+    // The bytes of a piece, up to the first that is wrong.
+    fn take_piece(&mut self, piece: &[u8]) -> Result<(), Stopped> {
+        for b in piece {
+            self.take_byte(*b)?;
+        }
+        Ok(())
+    }
+
+    // The last line, if the input does not end behind a line feed.
+    fn take_last(&mut self) -> Result<(), Stopped> {
+        if !self.line.is_blank() {
+            let point = self.line.last()?;
+            self.offer(point)?;
+        }
+        Ok(())
+    }
+
+    // Packs the points of the input, up to its end or to the first line that is refused. A loop has to end, and nothing says that an input does: it
+    // counts its turns up to a number that no run reaches.
+    pub(super) fn take_all(&mut self, input: &mut impl io::Read) -> Result<(), Stopped> {
+        let mut piece = [0u8; PIECE];
+        for _ in 0..u64::MAX {
+            let n = input.read(&mut piece)?;
+            if n == 0 {
+                return self.take_last();
             }
+            self.take_piece(&piece[..n])?;
+        }
+        Err(io::Error::other("it does not end").into())
+    }
+
+    // Closes the stream and answers its bytes.
+    pub(super) fn close(self) -> Result<&'a [u8], Refusal> {
+        let Packing { buf, encoder, .. } = self;
+        match encoder.close(buf).answer {
+            CloseAnswer::Refused(why) => Err(why),
+            // never more than the buffer has; that is not proved here, and were it wrong, nothing would be written
+            CloseAnswer::Used(_, bytes) => Ok(buf.get(..bytes.get()).unwrap_or(&[])),
         }
     }
-}
-
-fn with_byte(p: Packing, buf: &mut [u8], b: u8) -> Turn {
-    let line = p.line;
-    if b == b'\n' {
-        return with_line(p, buf, line.end());
-    }
-    let read = line.with(b);
-    match read {
-        Read::Wrong(fault) => standing(Verdict::NoPoint(fault), p),
-        Read::Part(longer) => {
-            let mut packing = p;
-            packing.line = longer;
-            standing(Verdict::Going, packing)
-        }
-    }
-}
-
-// The bytes of a piece, up to the first that is wrong.
-fn with_piece(p: Packing, buf: &mut [u8], piece: &[u8]) -> Turn {
-    let mut now = standing(Verdict::Going, p);
-    for b in piece {
-        let packing = now.packing;
-        now = with_byte(packing, buf, *b);
-        let verdict = now.verdict;
-        if !is_going(verdict) {
-            return now;
-        }
-    }
-    now
-}
-
-// The last line, if the input does not end behind a line feed.
-fn at_end(p: Packing, buf: &mut [u8]) -> Turn {
-    let line = p.line;
-    if line.is_blank() {
-        return standing(Verdict::Ended, p);
-    }
-    let last = with_line(p, buf, line.last());
-    let verdict = last.verdict;
-    let packing = last.packing;
-    if is_going(verdict) {
-        return standing(Verdict::Ended, packing);
-    }
-    last
-}
-
-// Reads once, and packs what came.
-fn with_read(input: &mut impl io::Read, p: Packing, buf: &mut [u8]) -> Turn {
-    let mut piece = [0u8; PIECE];
-    match input.read(&mut piece) {
-        Err(why) => standing(Verdict::Unread(why), p),
-        Ok(0) => at_end(p, buf),
-        Ok(n) => with_piece(p, buf, &piece[..n]),
-    }
-}
-
-// Packs the points of the input, up to its end or to the first line that is refused. A loop has to end, and nothing says that an input does: it
-// counts its turns up to a number that no run reaches.
-pub(super) fn pack(input: &mut impl io::Read, start: u64, buf: &mut [u8]) -> Turn {
-    // an encoder whose opening was refused refuses every later call
-    let opened = StdEncoder::open(start, buf);
-    let encoder = opened.encoder;
-    let line = Line::new();
-    let first = Packing {
-        encoder,
-        line,
-        number: 1,
-    };
-    let mut now = standing(Verdict::Going, first);
-    for _ in 0..u64::MAX {
-        let packing = now.packing;
-        now = with_read(input, packing, buf);
-        let verdict = now.verdict;
-        if !is_going(verdict) {
-            return now;
-        }
-    }
-    now
 }

@@ -1,148 +1,109 @@
-// What the program says on standard error: why there is no stream, and what to do about it.
+// What the program says on standard error: why there is no stream, and what to do about it. Where standard error fails too, there is no place left
+// to say it.
 
-use super::lines::Fault;
-use std::io;
+use super::packing::Stopped;
+use std::{fmt, io};
 use stream::Refusal;
 
-// Where standard error fails, there is no place left to say it.
-fn say(rt: &impl Eprint, text: &str) {
-    let _ = rt.eprint(text);
-}
-
-fn say_number(rt: &impl Eprint, n: u64) {
-    let _ = rt.eprint(n);
-}
-
 // The name that document 01's table gives a refusal.
-fn say_name(rt: &impl Eprint, why: Refusal) {
-    match why {
-        Refusal::NoRoom => say(rt, "no room"),
-        Refusal::TimeFalls => say(rt, "time falls"),
-        Refusal::FirstDelta => say(rt, "first delta"),
-        Refusal::DodRange => say(rt, "dod range"),
-        Refusal::TooLong => say(rt, "too long"),
-        Refusal::NoStart => say(rt, "no start"),
-        Refusal::CutShort => say(rt, "cut short"),
-        Refusal::BadEnd => say(rt, "bad end"),
-        Refusal::BadWindow => say(rt, "bad window"),
-        Refusal::ReadTimeFalls => say(rt, "read time falls"),
-        Refusal::ReadTimePasses => say(rt, "read time passes"),
-        Refusal::Closed => say(rt, "closed"),
-        Refusal::NoFit => say(rt, "no fit"),
+#[derive(Clone, Copy)]
+struct Named(Refusal);
+
+impl fmt::Display for Named {
+    fn fmt<W: fmt::Write>(&self, f: &mut fmt::Formatter<W>) -> fmt::Result {
+        f.write_str(match self.0 {
+            Refusal::NoRoom => "no room",
+            Refusal::TimeFalls => "time falls",
+            Refusal::FirstDelta => "first delta",
+            Refusal::DodRange => "dod range",
+            Refusal::TooLong => "too long",
+            Refusal::NoStart => "no start",
+            Refusal::CutShort => "cut short",
+            Refusal::BadEnd => "bad end",
+            Refusal::BadWindow => "bad window",
+            Refusal::ReadTimeFalls => "read time falls",
+            Refusal::ReadTimePasses => "read time passes",
+            Refusal::Closed => "closed",
+            Refusal::NoFit => "no fit",
+        })
     }
 }
 
 // "refused N (NAME)"
-fn say_refused(rt: &impl Eprint, why: Refusal) {
-    say(rt, "refused ");
-    say_number(rt, why.number() as u64);
-    say(rt, " (");
-    say_name(rt, why);
-    say(rt, ")\n");
-}
+#[derive(Clone, Copy)]
+struct Refused(Refusal);
 
-fn say_fault(rt: &impl Eprint, fault: Fault) {
-    match fault {
-        Fault::Empty => say(rt, "the line is empty"),
-        Fault::NoDigit => say(rt, "a byte before the comma is no digit"),
-        Fault::NoTime => say(rt, "no time before the comma"),
-        Fault::Above => say(rt, "the time is above 18446744073709551615"),
-        Fault::NoComma => say(rt, "no comma"),
-        Fault::NoValue => say(rt, "the value is not 16 hex digits"),
-        Fault::Return => say(rt, "a carriage return that no line feed follows"),
-        Fault::TooLong => say(rt, "too long"),
+impl fmt::Display for Refused {
+    fn fmt<W: fmt::Write>(&self, f: &mut fmt::Formatter<W>) -> fmt::Result {
+        write!(f, "refused {} ({})", self.0.number(), Named(self.0))
     }
-}
-
-fn say_line(rt: &impl Eprint, number: u64) {
-    say(rt, "line ");
-    say_number(rt, number);
-    say(rt, ": ");
-}
-
-// A line is no point.
-pub(super) fn no_point(rt: &impl Eprint, number: u64, fault: Fault) {
-    say_line(rt, number);
-    say(rt, "no point: ");
-    say_fault(rt, fault);
-    say(
-        rt,
-        "\nno stream was written; a line is TIME,VALUE: decimal digits, a comma, the value's bits in 16 hex digits\n",
-    );
 }
 
 // For a point that can't stand behind those before it.
-fn say_split(rt: &impl Eprint) {
-    say(
-        rt,
-        "pack the lines before it as one stream and those from it on as another, with a START at most 16383 below its time",
-    );
-}
+const SPLIT: &str =
+    "pack the lines before it as one stream and those from it on as another, with a START at most 16383 below its time";
 
 // What may be done about a point that the encoder refused.
-fn say_advice(rt: &impl Eprint, why: Refusal) {
-    match why {
-        Refusal::NoRoom => {
-            say(
-                rt,
-                "there is no room in 65536 bytes for this point behind those before it; ",
-            );
-            say_split(rt);
+#[derive(Clone, Copy)]
+struct Advice(Refusal);
+
+impl fmt::Display for Advice {
+    fn fmt<W: fmt::Write>(&self, f: &mut fmt::Formatter<W>) -> fmt::Result {
+        match self.0 {
+            Refusal::NoRoom => write!(
+                f,
+                "there is no room in 65536 bytes for this point behind those before it; {SPLIT}"
+            ),
+            Refusal::TimeFalls => f.write_str(
+                "a time may not be below the one before it, nor the first below START",
+            ),
+            Refusal::FirstDelta => f.write_str(
+                "the first time may be at most 16383 above START; take a START nearer to it",
+            ),
+            Refusal::DodRange => write!(
+                f,
+                "from one step between times to the next the change may be -2147483647 to 2147483648; {SPLIT}"
+            ),
+            // 5 to 11 are no encoder's; 12 and 13 need another state or another buffer
+            _ => f.write_str("this is a fault of the program"),
         }
-        Refusal::TimeFalls => say(
-            rt,
-            "a time may not be below the one before it, nor the first below START",
-        ),
-        Refusal::FirstDelta => say(
-            rt,
-            "the first time may be at most 16383 above START; take a START nearer to it",
-        ),
-        Refusal::DodRange => {
-            say(
-                rt,
-                "from one step between times to the next the change may be -2147483647 to 2147483648; ",
-            );
-            say_split(rt);
-        }
-        // 5 to 11 are no encoder's; 12 and 13 need another state or another buffer
-        _ => say(rt, "this is a fault of the program"),
     }
 }
 
-// The encoder refused the point of a line.
-pub(super) fn refused(rt: &impl Eprint, number: u64, why: Refusal) {
-    say_line(rt, number);
-    say_refused(rt, why);
-    say(rt, "no stream was written; ");
-    say_advice(rt, why);
-    say(rt, "\n");
+// Not all of the input was packed; number is that of the line that was read.
+pub(super) fn stopped(rt: &impl Eprint, number: u64, why: Stopped) {
+    let _ = match why {
+        Stopped::Unread(why) => {
+            failure::report(rt, "pack: standard input", why);
+            eprintln!(rt; "no stream was written")
+        }
+        Stopped::NoPoint(fault) => eprintln!(rt;
+            "line {number}: no point: {fault}\nno stream was written; a line is TIME,VALUE: decimal digits, a comma, the value's bits in 16 hex digits"
+        ),
+        Stopped::Refused(why) => eprintln!(rt;
+            "line {number}: {}\nno stream was written; {}",
+            Refused(why),
+            Advice(why)
+        ),
+    };
 }
 
 // The encoder refused to close, which it does not if it was opened.
 pub(super) fn not_closed(rt: &impl Eprint, why: Refusal) {
-    say(rt, "close: ");
-    say_refused(rt, why);
-    say(
-        rt,
-        "no stream was written; this is a fault of the program\n",
+    let _ = eprintln!(rt;
+        "close: {}\nno stream was written; this is a fault of the program",
+        Refused(why)
     );
-}
-
-// A read failed.
-pub(super) fn unread(rt: &impl Eprint, why: io::Error) {
-    failure::report(rt, "pack: standard input", why);
-    say(rt, "no stream was written\n");
 }
 
 // A write failed.
 pub(super) fn unwritten(rt: &impl Eprint, why: io::Error) {
     failure::report(rt, "pack: standard output", why);
-    say(rt, "what was written of the stream is no whole stream\n");
+    let _ = eprintln!(rt; "what was written of the stream is no whole stream");
 }
 
 pub(super) fn usage(rt: &impl Eprint) {
-    say(
-        rt,
-        "usage: pack START < points > stream; START is a number from 0 to 18446744073709551615, a point is a line TIME,VALUE\n",
+    let _ = eprintln!(rt;
+        "usage: pack START < points > stream; START is a number from 0 to 18446744073709551615, a point is a line TIME,VALUE"
     );
 }

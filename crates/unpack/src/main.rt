@@ -3,6 +3,7 @@
 
 #![tactic(auto)]
 
+mod page;
 mod points;
 mod say;
 
@@ -13,31 +14,26 @@ use std::rt::Env;
 // As many bytes as a stream may have.
 const LIMIT: usize = 65_536;
 
-// What stands on standard input.
-#[derive(Clone, Copy)]
-enum Input {
-    Bytes(usize),
-    Longer,
-}
-
-// Reads until buf is full or the input ends. Where buf is full, one more read tells whether the input ends there.
-fn read_input(input: &mut impl io::Read, buf: &mut [u8]) -> io::Result<Input> {
+// Reads until buf is full or the input ends, and answers what was read, or None for a longer input: where buf is full, one more read tells.
+fn read_input<'a>(input: &mut impl io::Read, buf: &'a mut [u8]) -> io::Result<Option<&'a [u8]>> {
     let mut n: usize = 0;
+    // by hand, since std's read_to_end fills a Vec, which would be heap, and read_exact does not tell how much came before an early end
     while n < buf.len() {
         let more = input.read(&mut buf[n..])?;
         if more == 0 {
-            return Ok(Input::Bytes(n));
+            return Ok(Some(&buf[..n]));
         }
         n += more;
     }
     let mut extra = [0u8; 1];
     if input.read(&mut extra)? == 0 {
-        return Ok(Input::Bytes(n));
+        return Ok(Some(buf));
     }
-    Ok(Input::Longer)
+    Ok(None)
 }
 
-// Whether the program was started with a word. It is not read: one for which there is no room is there too.
+// Whether the program was started with a word. It is not read: one for which there is no room is there too. (pack asks the same of a second word.
+// One function for both would be a public call whose answer no clause of std's can name, and document 01 forbids those.)
 fn has_word(env: &impl Env) -> bool {
     !matches!(env.arg(1, &mut []), Err(FillError::NotPresent))
 }
@@ -49,14 +45,9 @@ fn main(rt: HostRuntime) {
         return;
     }
     let mut buf = [0u8; LIMIT];
-    let found = read_input(&mut rt.stdin(), &mut buf);
-    match found {
+    match read_input(&mut rt.stdin(), &mut buf) {
         Err(why) => failure::report(&rt, "unpack: standard input", why),
-        Ok(Input::Longer) => say::too_long(&rt),
-        Ok(Input::Bytes(n)) => {
-            if n <= buf.len() {
-                points::unpack(&rt, &buf[0..n]);
-            }
-        }
+        Ok(None) => say::too_long(&rt),
+        Ok(Some(s)) => points::unpack(&rt, s),
     }
 }
