@@ -4,14 +4,12 @@
 
 #![tactic(auto)]
 
+use std::fmt::{self, Display, Formatter};
 use std::io::{self, Stdout};
-use stream::Bit;
-use stream::buffered_read::{
-    BitAnswer, BitRead, BitsAnswer, BitsRead, BufferedReader, ByteAnswer, ByteRead,
-};
+use stream::buffered_read::{BitAnswer, BitsAnswer, BufferedReader, ByteAnswer};
 use stream::buffered_write::{BufferedWriter, WriteAnswer, Written};
 use stream::position::{BitPos, ByteCount, InBits};
-use stream::refusal::Refusal;
+use stream::{Bit, Refusal};
 
 // 20 bytes have 160 bits. A field of n bits fits up to place 160 - n; up to place 95 nine bytes are there, so it comes out of a word.
 const PLACES: [usize; 21] = [
@@ -22,40 +20,101 @@ const WIDTHS: [u32; 10] = [0, 1, 7, 8, 9, 63, 64, 65, 256, 4_294_967_295];
 
 const VALUE: u64 = 0x9e37_79b9_7f4a_7c15;
 
-fn say(out: Stdout, text: &[u8]) -> io::Result<()> {
-    out.write_all(text)
+const COUNTS: [usize; 9] = [
+    0,
+    1,
+    7,
+    8,
+    9,
+    16_777_216,
+    16_777_217,
+    2_305_843_009_213_693_952,
+    18_446_744_073_709_551_615,
+];
+
+// What the calls answer, as a `Result`.
+
+fn of_write(answer: WriteAnswer) -> Result<(), Refusal> {
+    match answer {
+        WriteAnswer::Done => Ok(()),
+        WriteAnswer::Refused(why) => Err(why),
+    }
 }
 
-fn say_number(out: Stdout, n: usize) -> io::Result<()> {
-    print!(out; "{n}")
+fn of_bit(answer: BitAnswer) -> Result<u64, Refusal> {
+    match answer {
+        BitAnswer::Bit(bit) => Ok(bit.to_u64()),
+        BitAnswer::Refused(why) => Err(why),
+    }
 }
 
-// In hex, with zeros in front of a number that has fewer digits than the width.
-fn say_hex(out: Stdout, n: u64, width: usize) -> io::Result<()> {
-    print!(out; "{n:0width$x}")
+fn of_byte(answer: ByteAnswer) -> Result<u64, Refusal> {
+    match answer {
+        ByteAnswer::Byte(byte) => Ok(u64::from(byte)),
+        ByteAnswer::Refused(why) => Err(why),
+    }
 }
 
-fn say_number_of(out: Stdout, r: Refusal) -> io::Result<()> {
-    say(out, b" refused ")?;
-    say_number(out, r.number() as usize)
+fn of_bits(answer: BitsAnswer) -> Result<u64, Refusal> {
+    match answer {
+        BitsAnswer::Bits(n) => Ok(n),
+        BitsAnswer::Refused(why) => Err(why),
+    }
 }
 
-// The answer " refused R at P".
-fn say_refused(out: Stdout, r: Refusal, at: BitPos) -> io::Result<()> {
-    say_number_of(out, r)?;
-    say_at(out, at)
+fn of_in_bits(answer: InBits) -> Result<BitPos, Refusal> {
+    match answer {
+        InBits::At(place) => Ok(place),
+        InBits::Refused(why) => Err(why),
+    }
 }
 
-fn say_at(out: Stdout, at: BitPos) -> io::Result<()> {
-    say(out, b" at ")?;
-    say_number(out, at.get())
+// "refused R"
+#[derive(Clone, Copy)]
+struct Refused(Refusal);
+
+impl Display for Refused {
+    fn fmt<W: fmt::Write>(&self, f: &mut Formatter<W>) -> fmt::Result {
+        let number = self.0.number();
+        write!(f, "refused {number}")
+    }
 }
 
-// " V at P", the number in hex.
-fn say_value(out: Stdout, v: u64, at: BitPos) -> io::Result<()> {
-    say(out, b" ")?;
-    say_hex(out, v, 1)?;
-    say_at(out, at)
+// "at P"
+#[derive(Clone, Copy)]
+struct At(BitPos);
+
+impl Display for At {
+    fn fmt<W: fmt::Write>(&self, f: &mut Formatter<W>) -> fmt::Result {
+        let place = self.0.get();
+        write!(f, "at {place}")
+    }
+}
+
+// What a read answered, in hex, or why it was refused; and the position after it.
+#[derive(Clone, Copy)]
+struct Got(Result<u64, Refusal>, BitPos);
+
+impl Display for Got {
+    fn fmt<W: fmt::Write>(&self, f: &mut Formatter<W>) -> fmt::Result {
+        match self.0 {
+            Ok(n) => write!(f, "{n:x} {}", At(self.1)),
+            Err(why) => write!(f, "{} {}", Refused(why), At(self.1)),
+        }
+    }
+}
+
+// Two digits a byte.
+#[derive(Clone, Copy)]
+struct Hex<'a>(&'a [u8]);
+
+impl Display for Hex<'_> {
+    fn fmt<W: fmt::Write>(&self, f: &mut Formatter<W>) -> fmt::Result {
+        for b in self.0 {
+            write!(f, "{b:02x}")?;
+        }
+        Ok(())
+    }
 }
 
 // Bytes that are all different and seldom zero.
@@ -65,121 +124,65 @@ fn dirty(buf: &mut [u8]) {
     }
 }
 
-fn wide(x: u8) -> u64 {
-    x as u64
-}
-
-fn say_bytes(out: Stdout, buf: &[u8]) -> io::Result<()> {
-    for x in buf {
-        say_hex(out, wide(*x), 2)?;
-    }
-    Ok(())
-}
-
 // A writer at bit p, or at the buffer's end; what it wrote on its way is of no account.
 fn writer_at(buf: &mut [u8], p: usize) -> BufferedWriter {
-    let mut w = BufferedWriter::new();
-    for _ in 0..p {
-        let r = w.write_bit(buf, Bit::One);
-        w = r.writer;
-    }
-    w
+    (0..p).fold(
+        BufferedWriter::new(),
+        |w, _| w.write_bit(buf, Bit::One).writer,
+    )
 }
 
 fn reader_at(buf: &[u8], p: usize) -> BufferedReader {
-    let mut r = BufferedReader::new();
-    for _ in 0..p {
-        let f = r.read_bit(buf);
-        r = f.reader;
-    }
-    r
+    (0..p).fold(BufferedReader::new(), |r, _| r.read_bit(buf).reader)
 }
 
-fn say_written(out: Stdout, buf: &[u8], w: Written) -> io::Result<()> {
-    let at = w.writer.position();
-    let answer = w.answer;
-    match answer {
-        WriteAnswer::Done => {
-            say(out, b" done")?;
-            say_at(out, at)?;
-        }
-        WriteAnswer::Refused(r) => say_refused(out, r, at)?,
-    }
-    say(out, b" ")?;
-    say_bytes(out, buf)?;
-    say(out, b"\n")
-}
-
-fn say_bits(out: Stdout, f: BitsRead) -> io::Result<()> {
-    let at = f.reader.position();
-    let answer = f.answer;
-    match answer {
-        BitsAnswer::Bits(v) => say_value(out, v, at),
-        BitsAnswer::Refused(r) => say_refused(out, r, at),
-    }
-}
-
-fn say_bit(out: Stdout, f: BitRead) -> io::Result<()> {
-    let at = f.reader.position();
-    let answer = f.answer;
-    match answer {
-        BitAnswer::Bit(b) => say_value(out, b.to_u64(), at),
-        BitAnswer::Refused(r) => say_refused(out, r, at),
-    }
-}
-
-fn say_byte(out: Stdout, f: ByteRead) -> io::Result<()> {
-    let at = f.reader.position();
-    let answer = f.answer;
-    match answer {
-        ByteAnswer::Byte(x) => say_value(out, x as u64, at),
-        ByteAnswer::Refused(r) => say_refused(out, r, at),
+// What a write answered, the position after it, and the buffer's bytes.
+fn say_written(out: Stdout, buf: &[u8], done: Written) -> io::Result<()> {
+    let at = At(done.writer.position());
+    match of_write(done.answer) {
+        Ok(()) => println!(out; "done {at} {}", Hex(buf)),
+        Err(why) => println!(out; "{} {at} {}", Refused(why), Hex(buf)),
     }
 }
 
 // A field of n bits at the writer's place, over dirt.
 fn write_case(out: Stdout, buf: &mut [u8], w: BufferedWriter, n: u32) -> io::Result<()> {
     dirty(buf);
-    let r = w.write_bits(buf, VALUE, n);
-    say(out, b"write ")?;
-    say_number(out, n as usize)?;
-    say(out, b":")?;
-    say_written(out, buf, r)
+    let done = w.write_bits(buf, VALUE, n);
+    print!(out; "write {n}: ")?;
+    say_written(out, buf, done)
 }
 
 // A read and a peek of n bits at the reader's place.
 fn read_case(out: Stdout, buf: &[u8], r: BufferedReader, n: u32) -> io::Result<()> {
-    say(out, b"read ")?;
-    say_number(out, n as usize)?;
-    say(out, b":")?;
-    say_bits(out, r.read_bits(buf, n))?;
-    say(out, b", peek:")?;
-    say_bits(out, r.peak_bits(buf, n))?;
-    say(out, b"\n")
+    let read = r.read_bits(buf, n);
+    let read = Got(of_bits(read.answer), read.reader.position());
+    let peek = r.peak_bits(buf, n);
+    let peek = Got(of_bits(peek.answer), peek.reader.position());
+    println!(out; "read {n}: {read}, peek: {peek}")
 }
 
 // A byte at the writer's place, over dirt.
 fn byte_case(out: Stdout, buf: &mut [u8], w: BufferedWriter) -> io::Result<()> {
     dirty(buf);
-    let r = w.write_byte(buf, 0x5a);
-    say(out, b"write_byte:")?;
-    say_written(out, buf, r)
+    let done = w.write_byte(buf, 0x5a);
+    print!(out; "write_byte: ")?;
+    say_written(out, buf, done)
 }
 
 // A bit at the writer's place, over dirt.
 fn bit_case(out: Stdout, buf: &mut [u8], w: BufferedWriter, bit: Bit) -> io::Result<()> {
     dirty(buf);
-    let r = w.write_bit(buf, bit);
-    say(out, b"write_bit ")?;
-    say_number(out, bit.to_u64() as usize)?;
-    say(out, b":")?;
-    say_written(out, buf, r)
+    let done = w.write_bit(buf, bit);
+    print!(out; "write_bit {}: ", bit.to_u64())?;
+    say_written(out, buf, done)
 }
 
 fn write_cases(out: Stdout, buf: &mut [u8], w: BufferedWriter) -> io::Result<()> {
     byte_case(out, buf, w)?;
-    bit_case(out, buf, w, Bit::Zero)?;
-    bit_case(out, buf, w, Bit::One)?;
+    for bit in [Bit::Zero, Bit::One] {
+        bit_case(out, buf, w, bit)?;
+    }
     for n in WIDTHS {
         write_case(out, buf, w, n)?;
     }
@@ -187,27 +190,21 @@ fn write_cases(out: Stdout, buf: &mut [u8], w: BufferedWriter) -> io::Result<()>
 }
 
 fn read_cases(out: Stdout, buf: &[u8], r: BufferedReader) -> io::Result<()> {
-    say(out, b"read_byte:")?;
-    say_byte(out, r.read_byte(buf))?;
-    say(out, b", read_bit:")?;
-    say_bit(out, r.read_bit(buf))?;
-    say(out, b"\n")?;
+    let byte = r.read_byte(buf);
+    let byte = Got(of_byte(byte.answer), byte.reader.position());
+    let bit = r.read_bit(buf);
+    let bit = Got(of_bit(bit.answer), bit.reader.position());
+    println!(out; "read_byte: {byte}, read_bit: {bit}")?;
     for n in WIDTHS {
         read_case(out, buf, r, n)?;
     }
     Ok(())
 }
 
-fn say_place(out: Stdout, text: &[u8], p: usize) -> io::Result<()> {
-    say(out, text)?;
-    say_number(out, p)?;
-    say(out, b"\n")
-}
-
 // All cases at every place of a buffer.
 fn run(out: Stdout, buf: &mut [u8]) -> io::Result<()> {
     for p in PLACES {
-        say_place(out, b"to bit ", p)?;
+        println!(out; "to bit {p}")?;
         let w = writer_at(buf, p);
         write_cases(out, buf, w)?;
         dirty(buf);
@@ -219,7 +216,7 @@ fn run(out: Stdout, buf: &mut [u8]) -> io::Result<()> {
 
 // All cases from a place that was reached in a longer buffer.
 fn run_short(out: Stdout, long: &mut [u8], short: &mut [u8], p: usize) -> io::Result<()> {
-    say_place(out, b"with fewer bytes, from bit ", p)?;
+    println!(out; "with fewer bytes, from bit {p}")?;
     let w = writer_at(long, p);
     write_cases(out, short, w)?;
     let r = reader_at(long, p);
@@ -229,40 +226,26 @@ fn run_short(out: Stdout, long: &mut [u8], short: &mut [u8], p: usize) -> io::Re
 
 // Bytes as bits and bits as bytes.
 fn convert(out: Stdout, n: usize) -> io::Result<()> {
-    say_number(out, n)?;
-    say(out, b" bytes:")?;
-    let bytes = ByteCount::new(n);
-    let answer = bytes.to_bits();
-    match answer {
-        InBits::At(p) => say_at(out, p)?,
-        InBits::Refused(r) => say_number_of(out, r)?,
+    print!(out; "{n} bytes: ")?;
+    match of_in_bits(ByteCount::new(n).to_bits()) {
+        Ok(place) => print!(out; "{}", At(place))?,
+        Err(why) => print!(out; "{}", Refused(why))?,
     }
-    say(out, b", ")?;
-    say_number(out, n)?;
-    say(out, b" bits: ")?;
-    let held = BitPos::new(n).to_bytes();
-    say_number(out, held.get())?;
-    say(out, b"\n")
+    println!(out; ", {n} bits: {}", BitPos::new(n).to_bytes().get())
 }
 
 fn main(rt: HostRuntime) -> io::Result<()> {
     let out = rt.stdout();
-    let mut long = [0u8; 20];
-    let mut two = [0u8; 2];
-    let mut none = [0u8; 0];
+    let mut long = [0; 20];
     run(out, &mut long)?;
-    run_short(out, &mut long, &mut two, 15)?;
-    run_short(out, &mut long, &mut two, 16)?;
-    run_short(out, &mut long, &mut two, 17)?;
-    run_short(out, &mut long, &mut none, 0)?;
-    run_short(out, &mut long, &mut none, 1)?;
-    convert(out, 0)?;
-    convert(out, 1)?;
-    convert(out, 7)?;
-    convert(out, 8)?;
-    convert(out, 9)?;
-    convert(out, 16_777_216)?;
-    convert(out, 16_777_217)?;
-    convert(out, 2_305_843_009_213_693_952)?;
-    convert(out, 18_446_744_073_709_551_615)
+    for p in [15, 16, 17] {
+        run_short(out, &mut long, &mut [0; 2], p)?;
+    }
+    for p in [0, 1] {
+        run_short(out, &mut long, &mut [], p)?;
+    }
+    for n in COUNTS {
+        convert(out, n)?;
+    }
+    Ok(())
 }
