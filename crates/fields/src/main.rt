@@ -136,21 +136,34 @@ fn reader_at(buf: &[u8], p: usize) -> BufferedReader {
     (0..p).fold(BufferedReader::new(), |r, _| r.read_bit(buf).reader)
 }
 
-// What a write answered, the position after it, and the buffer's bytes.
-fn say_written(out: Stdout, buf: &[u8], done: Written) -> io::Result<()> {
+// A write over dirt: what it answered, the position after it, and the buffer's bytes.
+fn write_case<D: Display + Drop, F: FnOnce(&mut [u8]) -> Written>(
+    out: Stdout,
+    title: D,
+    buf: &mut [u8],
+    write: F,
+) -> io::Result<()>
+    requires { F.IsAlwaysCallable write }
+{
+    dirty(buf);
+    let done = write(buf);
     let at = At(done.writer.position());
     match of_write(done.answer) {
-        Ok(()) => println!(out; "done {at} {}", Hex(buf)),
-        Err(why) => println!(out; "{} {at} {}", Refused(why), Hex(buf)),
+        Ok(()) => println!(out; "{title}: done {at} {}", Hex(buf)),
+        Err(why) => println!(out; "{title}: {} {at} {}", Refused(why), Hex(buf)),
     }
 }
 
-// A field of n bits at the writer's place, over dirt.
-fn write_case(out: Stdout, buf: &mut [u8], w: BufferedWriter, n: u32) -> io::Result<()> {
-    dirty(buf);
-    let done = w.write_bits(buf, VALUE, n);
-    print!(out; "write {n}: ")?;
-    say_written(out, buf, done)
+// A byte, each bit and a field of each width, at the writer's place.
+fn write_cases(out: Stdout, buf: &mut [u8], w: BufferedWriter) -> io::Result<()> {
+    write_case(out, "write_byte", buf, |buf| w.write_byte(buf, 0x5a))?;
+    write_case(out, "write_bit 0", buf, |buf| w.write_bit(buf, Bit::Zero))?;
+    write_case(out, "write_bit 1", buf, |buf| w.write_bit(buf, Bit::One))?;
+    for n in WIDTHS {
+        let title = format_args!("write {n}");
+        write_case(out, title, buf, |buf| w.write_bits(buf, VALUE, n))?;
+    }
+    Ok(())
 }
 
 // A read and a peek of n bits at the reader's place.
@@ -160,33 +173,6 @@ fn read_case(out: Stdout, buf: &[u8], r: BufferedReader, n: u32) -> io::Result<(
     let peek = r.peak_bits(buf, n);
     let peek = Got(of_bits(peek.answer), peek.reader.position());
     println!(out; "read {n}: {read}, peek: {peek}")
-}
-
-// A byte at the writer's place, over dirt.
-fn byte_case(out: Stdout, buf: &mut [u8], w: BufferedWriter) -> io::Result<()> {
-    dirty(buf);
-    let done = w.write_byte(buf, 0x5a);
-    print!(out; "write_byte: ")?;
-    say_written(out, buf, done)
-}
-
-// A bit at the writer's place, over dirt.
-fn bit_case(out: Stdout, buf: &mut [u8], w: BufferedWriter, bit: Bit) -> io::Result<()> {
-    dirty(buf);
-    let done = w.write_bit(buf, bit);
-    print!(out; "write_bit {}: ", bit.to_u64())?;
-    say_written(out, buf, done)
-}
-
-fn write_cases(out: Stdout, buf: &mut [u8], w: BufferedWriter) -> io::Result<()> {
-    byte_case(out, buf, w)?;
-    for bit in [Bit::Zero, Bit::One] {
-        bit_case(out, buf, w, bit)?;
-    }
-    for n in WIDTHS {
-        write_case(out, buf, w, n)?;
-    }
-    Ok(())
 }
 
 fn read_cases(out: Stdout, buf: &[u8], r: BufferedReader) -> io::Result<()> {
@@ -201,27 +187,14 @@ fn read_cases(out: Stdout, buf: &[u8], r: BufferedReader) -> io::Result<()> {
     Ok(())
 }
 
-// All cases at every place of a buffer.
-fn run(out: Stdout, buf: &mut [u8]) -> io::Result<()> {
-    for p in PLACES {
-        println!(out; "to bit {p}")?;
-        let w = writer_at(buf, p);
-        write_cases(out, buf, w)?;
-        dirty(buf);
-        let r = reader_at(buf, p);
-        read_cases(out, buf, r)?;
-    }
-    Ok(())
-}
-
-// All cases from a place that was reached in a longer buffer.
-fn run_short(out: Stdout, long: &mut [u8], short: &mut [u8], p: usize) -> io::Result<()> {
-    println!(out; "with fewer bytes, from bit {p}")?;
-    let w = writer_at(long, p);
-    write_cases(out, short, w)?;
-    let r = reader_at(long, p);
-    dirty(short);
-    read_cases(out, short, r)
+// All cases from bit p, a place that was reached in another buffer.
+fn run(out: Stdout, title: &str, other: &mut [u8], buf: &mut [u8], p: usize) -> io::Result<()> {
+    println!(out; "{title} bit {p}")?;
+    let w = writer_at(other, p);
+    write_cases(out, buf, w)?;
+    let r = reader_at(other, p);
+    dirty(buf);
+    read_cases(out, buf, r)
 }
 
 // Bytes as bits and bits as bytes.
@@ -237,12 +210,14 @@ fn convert(out: Stdout, n: usize) -> io::Result<()> {
 fn main(rt: HostRuntime) -> io::Result<()> {
     let out = rt.stdout();
     let mut long = [0; 20];
-    run(out, &mut long)?;
+    for p in PLACES {
+        run(out, "to", &mut long, &mut [0; 20], p)?;
+    }
     for p in [15, 16, 17] {
-        run_short(out, &mut long, &mut [0; 2], p)?;
+        run(out, "with fewer bytes, from", &mut long, &mut [0; 2], p)?;
     }
     for p in [0, 1] {
-        run_short(out, &mut long, &mut [], p)?;
+        run(out, "with fewer bytes, from", &mut long, &mut [], p)?;
     }
     for n in COUNTS {
         convert(out, n)?;
