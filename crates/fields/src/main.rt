@@ -1,15 +1,16 @@
 // A test: writes and reads fields of every critical width at every critical place of a buffer that starts dirty, and prints what each
 // call answered, the position after it and, for a write, the buffer's bytes. What it must print was worked out by other code
-// (oracle/fields.py). It writes each piece as it comes: it is no model of a program's output.
+// (oracle/fields.py). It writes each line as it comes: it is no model of a program's output.
 
 #![tactic(auto)]
 
+mod results;
+
+use results::{of_bit, of_bits, of_byte, of_in_bits, of_write};
 use std::fmt::{self, Display, Formatter};
 use std::io::{self, Stdout};
-use stream::buffered_read::{BitAnswer, BitsAnswer, BufferedReader, ByteAnswer};
-use stream::buffered_write::{BufferedWriter, WriteAnswer, Written};
-use stream::position::{BitPos, ByteCount, InBits};
-use stream::{Bit, Refusal};
+use stream::buffered_write::Written;
+use stream::{Bit, BitPos, BufferedReader, BufferedWriter, ByteCount, Refusal};
 
 // 20 bytes have 160 bits. A field of n bits fits up to place 160 - n; up to place 95 nine bytes are there, so it comes out of a word.
 const PLACES: [usize; 21] = [
@@ -32,44 +33,7 @@ const COUNTS: [usize; 9] = [
     18_446_744_073_709_551_615,
 ];
 
-// What the calls answer, as a `Result`.
-
-fn of_write(answer: WriteAnswer) -> Result<(), Refusal> {
-    match answer {
-        WriteAnswer::Done => Ok(()),
-        WriteAnswer::Refused(why) => Err(why),
-    }
-}
-
-fn of_bit(answer: BitAnswer) -> Result<u64, Refusal> {
-    match answer {
-        BitAnswer::Bit(bit) => Ok(bit.to_u64()),
-        BitAnswer::Refused(why) => Err(why),
-    }
-}
-
-fn of_byte(answer: ByteAnswer) -> Result<u64, Refusal> {
-    match answer {
-        ByteAnswer::Byte(byte) => Ok(u64::from(byte)),
-        ByteAnswer::Refused(why) => Err(why),
-    }
-}
-
-fn of_bits(answer: BitsAnswer) -> Result<u64, Refusal> {
-    match answer {
-        BitsAnswer::Bits(n) => Ok(n),
-        BitsAnswer::Refused(why) => Err(why),
-    }
-}
-
-fn of_in_bits(answer: InBits) -> Result<BitPos, Refusal> {
-    match answer {
-        InBits::At(place) => Ok(place),
-        InBits::Refused(why) => Err(why),
-    }
-}
-
-// "refused R"
+// "refused R". `marked` and `lending` have the same: a library of printing would have public calls whose outcome is not stated, which document 01 forbids.
 #[derive(Clone, Copy)]
 struct Refused(Refusal);
 

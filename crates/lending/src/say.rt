@@ -1,4 +1,5 @@
-// What the program prints: numbers read, points and answers.
+// What the program prints: numbers read, points and answers. `marked` and `fields` have some of the same: a library of printing
+// would have public calls whose outcome is not stated, which document 01 forbids.
 
 use decode::std_decoder::Step;
 use point::Stored;
