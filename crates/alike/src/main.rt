@@ -3,8 +3,7 @@
 
 #![tactic(auto)]
 
-use point::{DataPoint, Stored};
-use std::cmp::Ordering;
+use point::{DataPoint, Ordering, Stored};
 use std::io::{self, Stdout};
 
 // Zeros, the smallest and the largest numbers, ones, a third, infinities, NaNs with and without sign and payload.
@@ -27,62 +26,32 @@ const PATTERNS: [u64; 16] = [
     0xffff_ffff_ffff_ffff,
 ];
 
-fn say(out: Stdout, text: &[u8]) -> io::Result<()> {
-    out.write_all(text)
-}
-
-fn say_number(out: Stdout, n: u64) -> io::Result<()> {
-    print!(out; "{n}")
-}
-
-// In hex, with zeros in front of a number that has fewer digits than the width.
-fn say_hex(out: Stdout, n: u64, width: usize) -> io::Result<()> {
-    print!(out; "{n:0width$x}")
+// A point of these bits beside another: "=" if they are alike.
+fn alike(a: DataPoint, b: DataPoint) -> char {
+    if a.same(b) { '=' } else { '.' }
 }
 
 fn point_of(time: u64, bits: u64) -> DataPoint {
-    DataPoint::from(Stored { time, bits })
+    Stored { time, bits }.to_point()
 }
 
-// The bits as a value, and the value's bits.
-fn say_back(out: Stdout, bits: u64) -> io::Result<()> {
-    say_hex(out, bits, 16)?;
-    say(out, b" ")?;
-    let s = Stored::from(point_of(7, bits));
-    say_hex(out, s.bits, 16)?;
-    say(out, b" ")?;
-    say_number(out, s.time)?;
-    say(out, b" ")
-}
-
-fn say_same(out: Stdout, a: DataPoint, b: DataPoint) -> io::Result<()> {
-    if a == b {
-        say(out, b"=")
-    } else {
-        say(out, b".")
-    }
-}
-
-// One value beside all of them, at the same time and at another.
+// One value, what comes back of its bits, and how it stands to all of them, at the same time and at another.
 fn row(out: Stdout, bits: u64) -> io::Result<()> {
-    say_back(out, bits)?;
+    let point = point_of(7, bits);
+    let Stored { time, bits: back } = point.to_stored();
+    print!(out; "{bits:016x} {back:016x} {time} ")?;
     for other in PATTERNS {
-        say_same(out, point_of(7, bits), point_of(7, other))?;
+        print!(out; "{}", alike(point, point_of(7, other)))?;
     }
-    say(out, b" ")?;
-    say_same(out, point_of(7, bits), point_of(8, bits))?;
-    say(out, b"\n")
+    println!(out; " {}", alike(point, point_of(8, bits)))
 }
 
-fn say_order(out: Stdout, t: u64, u: u64) -> io::Result<()> {
-    // the values say the opposite of the times
-    let a = DataPoint::new(t, 2.0);
-    let b = DataPoint::new(u, 1.0);
-    let o = a.cmp(b);
-    match o {
-        Ordering::Less => say(out, b"<"),
-        Ordering::Equal => say(out, b"="),
-        Ordering::Greater => say(out, b">"),
+// The times say how they stand, and the values say the opposite.
+fn order(t: u64, u: u64) -> char {
+    match DataPoint::new(t, 2.0).cmp(DataPoint::new(u, 1.0)) {
+        Ordering::Less => '<',
+        Ordering::Equal => '=',
+        Ordering::Greater => '>',
     }
 }
 
@@ -91,10 +60,8 @@ fn main(rt: HostRuntime) -> io::Result<()> {
     for bits in PATTERNS {
         row(out, bits)?;
     }
-    say_order(out, 1, 2)?;
-    say_order(out, 2, 2)?;
-    say_order(out, 3, 2)?;
-    say_order(out, 0, 18_446_744_073_709_551_615)?;
-    say_order(out, 18_446_744_073_709_551_615, 0)?;
-    say(out, b"\n")
+    for (t, u) in [(1, 2), (2, 2), (3, 2), (0, u64::MAX), (u64::MAX, 0)] {
+        print!(out; "{}", order(t, u))?;
+    }
+    println!(out)
 }

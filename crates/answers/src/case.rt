@@ -1,25 +1,54 @@
-// A case, by its first letter.
+// A case, by the letter of its first word.
 
-ghost use Rattle.std.specs.Prelude.{◌≤◌, length};
+use super::{Page, decoding, encoding, reading, writing};
+use std::fmt::{self, Display, Formatter};
+use stream::Refusal;
 
-use super::{decoding, encoding, page, reading, words, writing};
+// Why a case's answer goes no further.
+#[derive(Clone, Copy)]
+pub(super) enum Fault {
+    NoCase,
+    Refused(Refusal),
+}
 
-// Puts the answer to a case behind out[0..used], and answers where it ends. What buf holds before does not matter.
-pub(super) fn answer(text: &[u8], buf: &mut [u8], out: &mut [u8], used: usize) -> usize
-    requires { used ≤ length out.old }
-    ensures { result ≤ length out.old }
-{
-    let kind = words::byte_at(text, 0);
-    if kind == b'w' {
-        return writing::written(text, buf, out, used);
+impl From<Refusal> for Fault {
+    fn from(why: Refusal) -> Fault {
+        Fault::Refused(why)
     }
-    if words::byte_at(text, 1) != b' ' {
-        return page::put_no_case(out, used);
+}
+
+impl Display for Fault {
+    fn fmt<W: fmt::Write>(&self, f: &mut Formatter<W>) -> fmt::Result {
+        match self {
+            Fault::NoCase => write!(f, "line not understood"),
+            Fault::Refused(why) => {
+                let number = why.number();
+                write!(f, "refused {number}")
+            }
+        }
     }
+}
+
+// Puts the answer to a case. What buf holds before does not matter.
+pub(super) fn put_answer(case: &[u8], buf: &mut [u8], page: &mut Page) {
+    let from = page.len();
+    if let Err(fault) = put_answer_to(case, buf, page) {
+        // what was answered before stands only before a refusal
+        if matches!(fault, Fault::NoCase) {
+            page.truncate(from);
+        }
+        print!(page; "{fault}");
+    }
+}
+
+fn put_answer_to(case: &[u8], buf: &mut [u8], page: &mut Page) -> Result<(), Fault> {
+    let end = case.iter().position(|b| *b == b' ');
+    let (kind, words) = case.split_at(end.unwrap_or(case.len()));
     match kind {
-        b'd' => decoding::decoded(text, buf, out, used),
-        b'e' => encoding::encoded(text, buf, out, used),
-        b'r' => reading::reads(text, buf, out, used),
-        _ => page::put_no_case(out, used),
+        b"w" => writing::put_written(words, buf, page),
+        b"d" => decoding::put_decoded(words, buf, page),
+        b"e" => encoding::put_encoded(words, buf, page),
+        b"r" => reading::put_reads(words, buf, page),
+        _ => Err(Fault::NoCase),
     }
 }

@@ -1,56 +1,40 @@
 // `d BYTES`: the decoder's answers, up to the first that is no point.
 
-ghost use Rattle.std.specs.Prelude.{◌≤◌, length};
-
-use super::{page, words};
+use super::case::Fault;
+use super::{Page, words};
 use decode::StdDecoder;
 use decode::std_decoder::Step;
 
 // More steps than the bytes of a line can give: a point takes two bits or more.
 const STEPS: u64 = 300_000;
 
-// Puts what a decoder of s answers.
-fn told(s: &[u8], out: &mut [u8], from: usize) -> usize
-    requires { from ≤ length out.old }
-    ensures { result ≤ length out.old }
-{
-    // a decoder whose opening was refused answers that refusal at its first step
-    let opened = StdDecoder::open(s);
-    let mut d = opened.decoder;
-    let mut used = from;
-    for _ in 0..STEPS {
-        let next = d.next(s);
-        let answer = next.answer;
-        d = next.decoder;
-        match answer {
-            Step::Point(p, at) => {
-                used = page::put_point(out, used, p);
-            }
-            Step::End(at) => {
-                return page::put(out, used, b"end");
-            }
-            Step::Refused(why) => {
-                return page::put_refused(out, used, why);
-            }
-        }
+pub(super) fn put_decoded(words: &[u8], buf: &mut [u8], page: &mut Page) -> Result<(), Fault> {
+    let mut words = words.split(|b| *b == b' ').skip(1);
+    let bytes = words
+        .next()
+        .and_then(|word| words::bytes_of(word, buf))
+        .ok_or(Fault::NoCase)?;
+    if words.next().is_some() {
+        return Err(Fault::NoCase);
     }
-    used
+    put_steps(bytes, page)
 }
 
-pub(super) fn decoded(line: &[u8], buf: &mut [u8], out: &mut [u8], used: usize) -> usize
-    requires { used ≤ length out.old }
-    ensures { result ≤ length out.old }
-{
-    let found = words::bytes_at(line, 2, buf);
-    let n = found.count;
-    if !found.ok {
-        return page::put_no_case(out, used);
+// Puts what a decoder of s answers.
+fn put_steps(s: &[u8], page: &mut Page) -> Result<(), Fault> {
+    // a decoder whose opening was refused answers that refusal at its first step
+    let mut decoder = StdDecoder::open(s).decoder;
+    for _ in 0..STEPS {
+        let next = decoder.next(s);
+        decoder = next.decoder;
+        match next.answer {
+            Step::Point(p, _) => print!(page; "{},{:016x} ", p.time, p.bits),
+            Step::End(_) => {
+                page.put(b"end");
+                return Ok(());
+            }
+            Step::Refused(why) => return Err(Fault::Refused(why)),
+        }
     }
-    if found.at < line.len() {
-        return page::put_no_case(out, used);
-    }
-    if buf.len() < n {
-        return page::put_no_case(out, used);
-    }
-    told(&buf[0..n], out, used)
+    Ok(())
 }

@@ -1,125 +1,86 @@
-// Standard input, line by line. It is read in pieces and never held whole.
+// Standard input, line by line. It is read in pieces and never held whole. Std's readers of lines put them on a heap, which no crate here has.
 
+ghost use Rattle.std.specs.Prelude.{◌≤◌};
+
+use super::text::{NoRoom, Text};
 use std::io::{self, Read, Stdin};
 
-// The input, and what was read of it and not yet taken: piece[at..n].
-#[derive(Clone, Copy)]
-pub(super) struct Source {
+// The input, and what was read of it and not yet taken: piece[at..end].
+#[derive(Drop)]
+struct Source {
     input: Stdin,
+    piece: [u8; 65_536],
     at: usize,
-    n: usize,
+    end: usize,
+    ghost ordered: { at ≤ end },
+    ghost within: { end ≤ 65536 },
 }
 
-#[derive(Clone, Copy)]
-enum Got {
-    Byte(u8),
-    End,
-}
-
-// A byte, and the source behind it.
-#[derive(Clone, Copy)]
-struct Pulled {
-    got: Got,
+// The lines of the input. 12,288 bytes are a stream of 6,143 bytes, or 646 points of the shortest kind.
+#[derive(Drop)]
+pub(super) struct Lines {
     source: Source,
-}
-
-// A line of so many bytes, without its line feed; one that is longer than the buffer for it; or the end of the input.
-#[derive(Clone, Copy)]
-pub(super) enum Line {
-    Bytes(usize),
-    Longer,
-    End,
-}
-
-#[derive(Clone, Copy)]
-pub(super) struct Taken {
-    pub(super) line: Line,
-    pub(super) source: Source,
-}
-
-// Reads once, and takes the first byte of what came.
-fn pull_new(piece: &mut [u8], mut input: Stdin) -> io::Result<Pulled> {
-    let n = input.read(piece)?;
-    if n == 0 {
-        let source = Source::new(input);
-        return Ok(Pulled {
-            got: Got::End,
-            source,
-        });
-    }
-    let got = Got::Byte(piece[0]);
-    let source = Source { input, at: 1, n };
-    Ok(Pulled { got, source })
-}
-
-fn pull(piece: &mut [u8], source: Source) -> io::Result<Pulled> {
-    let Source { input, at, n } = source;
-    if n <= at {
-        return pull_new(piece, input);
-    }
-    if piece.len() <= at {
-        return pull_new(piece, input);
-    }
-    let got = Got::Byte(piece[at]);
-    let source = Source {
-        input,
-        at: at + 1,
-        n,
-    };
-    Ok(Pulled { got, source })
-}
-
-// What a line of n bytes is at its end.
-fn whole(line: &[u8], n: usize) -> Line {
-    if line.len() < n {
-        return Line::Longer;
-    }
-    Line::Bytes(n)
-}
-
-// The last line, if no line feed ends it.
-fn last(line: &[u8], n: usize) -> Line {
-    if n == 0 {
-        return Line::End;
-    }
-    whole(line, n)
-}
-
-// The line with a byte more: how many bytes it has, or, where there is no room, more than any buffer.
-fn with_byte(line: &mut [u8], n: usize, b: u8) -> usize {
-    if line.len() <= n {
-        return usize::MAX;
-    }
-    line[n] = b;
-    n + 1
+    line: Text<12_288>,
 }
 
 impl Source {
-    // Before the first byte.
-    pub(super) fn new(input: Stdin) -> Source {
-        Source { input, at: 0, n: 0 }
+    // Reads a new piece, if nothing is left of the last one.
+    fn fill(&mut self) -> io::Result<()> {
+        if self.at == self.end {
+            let n = self.input.read(&mut self.piece)?;
+            self.at = 0;
+            self.end = n;
+        }
+        Ok(())
     }
 
-    // Takes the next line into a buffer. A loop has to end, and nothing says that a line does: it takes as many turns as no line uses up.
-    pub(super) fn next_line(self, piece: &mut [u8], into: &mut [u8]) -> io::Result<Taken> {
-        let mut source = self;
-        let mut n: usize = 0;
+    fn left(&self) -> &[u8] {
+        let all = &self.piece[..];
+        &all[self.at..self.end]
+    }
+
+    // Takes so many bytes, or all that are left.
+    fn take(&mut self, n: usize) {
+        self.at = self.at.saturating_add(n).min(self.end);
+    }
+}
+
+impl Lines {
+    // Before the first byte.
+    pub(super) fn new(input: Stdin) -> Lines {
+        let source = Source {
+            input,
+            piece: [0; 65_536],
+            at: 0,
+            end: 0,
+        };
+        Lines {
+            source,
+            line: Text::new(),
+        }
+    }
+
+    // The next line, without its line feed, which the last one may lack. A loop has to end, and nothing says that a line does: it takes as many turns
+    // as no line uses up.
+    pub(super) fn next_line(&mut self) -> io::Result<Option<Result<&[u8], NoRoom>>> {
+        let Lines { source, line } = self;
+        line.truncate(0);
+        let mut whole = Ok(());
         for _ in 0..u64::MAX {
-            let pulled = pull(piece, source)?;
-            source = pulled.source;
-            let got = pulled.got;
-            match got {
-                Got::End => {
-                    let line = last(into, n);
-                    return Ok(Taken { line, source });
-                }
-                Got::Byte(b) => {
-                    if b == b'\n' {
-                        let line = whole(into, n);
-                        return Ok(Taken { line, source });
-                    }
-                    n = with_byte(into, n, b);
-                }
+            source.fill()?;
+            let left = source.left();
+            let is_over = left.is_empty();
+            let feed = left.iter().position(|b| *b == b'\n');
+            let part = &left[..feed.unwrap_or(left.len())];
+            whole = whole.and(line.try_put(part));
+            // the line feed too
+            let taken = part.len() + 1;
+            source.take(taken);
+            if is_over && line.len() == 0 {
+                return Ok(None);
+            }
+            if is_over || feed.is_some() {
+                return Ok(Some(whole.map(|()| line.as_slice())));
             }
         }
         Err(io::Error::other("a line does not end"))

@@ -1,184 +1,64 @@
-// The words of a line. A place in a line may lie behind its end, where no word is.
+// The words of a line, each behind a blank. A word is read from its front: what is read of it comes with the rest of it. A call is made as soon as its
+// word's front is read, so its refusal is told even where the word goes on.
 
-// A number read off a line.
-#[derive(Clone, Copy)]
-pub(super) struct Number {
-    // whether there is one
-    pub(super) ok: bool,
-    pub(super) n: u64,
-    // how many digits it has
-    pub(super) digits: u32,
-    // the place behind it
-    pub(super) at: usize,
-}
+ghost use Rattle.std.specs.Prelude.{◌≤◌};
 
-// The bytes that a word stands for: how many, and the place behind it.
-#[derive(Clone, Copy)]
-pub(super) struct Bytes {
-    pub(super) ok: bool,
-    pub(super) count: usize,
-    pub(super) at: usize,
-}
+use super::case::Fault;
+use std::ops::RangeInclusive;
+use std::str;
 
-// The byte at a place, 0 behind the end: a line has no such byte where it is understood.
-pub(super) fn byte_at(line: &[u8], at: usize) -> u8 {
-    if at < line.len() {
-        return line[at];
-    }
-    0
-}
-
-// The place behind this one.
-pub(super) fn after(line: &[u8], at: usize) -> usize {
-    if at < line.len() {
-        return at + 1;
-    }
-    at
-}
-
-// The number of a hex digit in lower case; 16 for any other byte.
-fn digit_of(b: u8) -> u8 {
-    match b {
-        b'0'..=b'9' => b - b'0',
-        b'a'..=b'f' => b - b'a' + 10,
-        _ => 16,
+// A word that goes on behind what was read of it is none.
+pub(super) fn ended(rest: &[u8]) -> Result<(), Fault> {
+    if rest.is_empty() {
+        Ok(())
+    } else {
+        Err(Fault::NoCase)
     }
 }
 
-fn no_number(at: usize) -> Number {
-    Number {
-        ok: false,
-        n: 0,
-        digits: 0,
-        at,
-    }
+fn is_digit(b: u8) -> bool {
+    matches!(b, b'0'..=b'9' | b'a'..=b'f')
 }
 
-// The number with one decimal digit more, if it is below 2^64.
-fn with_decimal(so_far: Number, d: u8) -> Number {
-    let n = so_far.n;
-    let at = so_far.at;
-    let digits = so_far.digits;
-    let last = d as u64;
-    if 1_844_674_407_370_955_161 < n {
-        return no_number(at);
-    }
-    let tens = 10 * n;
-    if u64::MAX - tens < last {
-        return no_number(at);
-    }
-    if 1000 < digits {
-        return no_number(at);
-    }
-    Number {
-        ok: true,
-        n: tens + last,
-        digits: digits + 1,
-        at,
-    }
+// The digits at a word's front, hex ones in lower case, whatever radix they are read in.
+fn digits_of(word: &[u8]) -> (&[u8], &[u8]) {
+    let n = word.iter().position(|b| !is_digit(*b));
+    word.split_at(n.unwrap_or(word.len()))
 }
 
-// The number with one hex digit more, if it had fewer than 16.
-fn with_hex(so_far: Number, d: u8) -> Number {
-    let n = so_far.n;
-    let at = so_far.at;
-    let digits = so_far.digits;
-    if 15 < digits {
-        return no_number(at);
+// The number in the digits at a word's front, if there are so many, each is one of the radix, and it is below 2^64.
+fn number_of(word: &[u8], radix: u32, lengths: RangeInclusive<usize>) -> Option<(u64, &[u8])>
+    requires two_digits { 2 ≤ radix }
+    requires all_letters { radix ≤ 36 }
+{
+    let (digits, rest) = digits_of(word);
+    if !lengths.contains(&digits.len()) {
+        return None;
     }
-    Number {
-        ok: true,
-        n: (n << 4) | (d as u64),
-        digits: digits + 1,
-        at,
-    }
+    let text = str::from_utf8(digits).ok()?;
+    let n = u64::from_str_radix(text, radix).ok()?;
+    Some((n, rest))
 }
 
-// The number in the digits from a place on, of base 10 or, if hex, 16.
-fn number_at(line: &[u8], start: usize, hex: bool) -> Number {
-    let mut found = no_number(start);
-    for i in start..line.len() {
-        let d = digit_of(line[i]);
-        if 15 < d {
-            return found;
-        }
-        if hex {
-            found = with_hex(found, d);
-        } else {
-            if 9 < d {
-                return no_number(start);
-            }
-            found = with_decimal(found, d);
-        }
-        if !found.ok {
-            return found;
-        }
-        found.at = i + 1;
-    }
-    found
+// Zeros in front count as digits.
+pub(super) fn decimal_of(word: &[u8]) -> Option<(u64, &[u8])> {
+    number_of(word, 10, 1..=1001)
 }
 
-pub(super) fn decimal_at(line: &[u8], at: usize) -> Number {
-    number_at(line, at, false)
+pub(super) fn hex_of(word: &[u8], lengths: RangeInclusive<usize>) -> Option<(u64, &[u8])> {
+    number_of(word, 16, lengths)
 }
 
-pub(super) fn hex_at(line: &[u8], at: usize) -> Number {
-    number_at(line, at, true)
-}
-
-// Puts the byte of two digits at buf's place k, and answers whether they are digits and there is such a place.
-fn put_pair(buf: &mut [u8], k: usize, high: u8, low: u8) -> bool {
-    if 15 < high {
-        return false;
+// The bytes that a whole word stands for, two digits each or `-` for none, put at buf's start.
+pub(super) fn bytes_of<'a>(word: &[u8], buf: &'a mut [u8]) -> Option<&'a [u8]> {
+    if word == b"-".as_slice() {
+        return Some(&[]);
     }
-    if 15 < low {
-        return false;
+    // digits are in lower case
+    if word.is_empty() || word.iter().any(u8::is_ascii_uppercase) {
+        return None;
     }
-    if buf.len() <= k {
-        return false;
-    }
-    buf[k] = 16 * high + low;
-    true
-}
-
-// Bytes, two hex digits each, from a place on, put at buf's start.
-fn pairs_at(line: &[u8], start: usize, buf: &mut [u8]) -> Bytes {
-    let mut at = start;
-    for count in 0..line.len() {
-        let high = digit_of(byte_at(line, at));
-        if 15 < high {
-            return Bytes {
-                ok: 0 < count,
-                count,
-                at,
-            };
-        }
-        let second = after(line, at);
-        let low = digit_of(byte_at(line, second));
-        if !put_pair(buf, count, high, low) {
-            return Bytes {
-                ok: false,
-                count: 0,
-                at,
-            };
-        }
-        at = after(line, second);
-    }
-    Bytes {
-        ok: false,
-        count: 0,
-        at,
-    }
-}
-
-// The same, and `-` for none.
-pub(super) fn bytes_at(line: &[u8], at: usize, buf: &mut [u8]) -> Bytes {
-    if byte_at(line, at) == b'-' {
-        return Bytes {
-            ok: true,
-            count: 0,
-            at: after(line, at),
-        };
-    }
-    pairs_at(line, at, buf)
+    let bytes = buf.get_mut(..word.len() / 2)?;
+    hex::decode_to_slice(word, bytes).ok()?;
+    Some(bytes)
 }

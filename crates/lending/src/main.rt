@@ -7,6 +7,7 @@
 mod decoding;
 mod encoding;
 mod reading;
+mod results;
 mod say;
 
 use std::io;
@@ -14,7 +15,7 @@ use std::io;
 fn main(rt: HostRuntime) -> io::Result<()> {
     let out = rt.stdout();
     // dirty, so that what is not cleared is seen
-    let mut buf = [0xffu8; 32];
+    let mut buf = [0xff; 32];
     let used = encoding::encoded(out, &mut buf)?;
     reading::shown(out, &buf, used)?;
     decoding::decoded(out, &buf, used)?;

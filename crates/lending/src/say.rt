@@ -1,30 +1,67 @@
-// What the program prints, piece by piece as it comes.
+// What the program prints: numbers read, points and answers. `marked` and `fields` have some of the same: a library of printing
+// would have public calls whose outcome is not stated, which document 01 forbids.
 
+use decode::std_decoder::Step;
 use point::Stored;
-use std::io::{self, Stdout};
+use std::fmt::{self, Display, Formatter};
 use stream::Refusal;
 
-pub(super) fn say(out: Stdout, text: &[u8]) -> io::Result<()> {
-    out.write_all(text)
+// "refused R"
+#[derive(Clone, Copy)]
+struct Refused(Refusal);
+
+impl Display for Refused {
+    fn fmt<W: fmt::Write>(&self, f: &mut Formatter<W>) -> fmt::Result {
+        let number = self.0.number();
+        write!(f, "refused {number}")
+    }
 }
 
-pub(super) fn say_number(out: Stdout, n: u64) -> io::Result<()> {
-    print!(out; "{n}")
+// What a call answered.
+#[derive(Clone, Copy)]
+pub(super) struct Told<T>(pub(super) Result<T, Refusal>);
+
+impl<T: Display> Display for Told<T> {
+    fn fmt<W: fmt::Write>(&self, f: &mut Formatter<W>) -> fmt::Result {
+        match &self.0 {
+            Ok(answer) => write!(f, "{answer}"),
+            Err(why) => write!(f, "{}", Refused(*why)),
+        }
+    }
 }
 
-// In hex, with zeros in front of a number that has fewer digits than the width.
-pub(super) fn say_hex(out: Stdout, n: u64, width: usize) -> io::Result<()> {
-    print!(out; "{n:0width$x}")
-}
+// A number in hex.
+#[derive(Clone, Copy)]
+pub(super) struct Hex(pub(super) u64);
 
-pub(super) fn say_refused(out: Stdout, r: Refusal) -> io::Result<()> {
-    say(out, b"refused ")?;
-    say_number(out, r.number() as u64)
+impl Display for Hex {
+    fn fmt<W: fmt::Write>(&self, f: &mut Formatter<W>) -> fmt::Result {
+        let n = self.0;
+        write!(f, "{n:x}")
+    }
 }
 
 // "T V", the value as its 64 bits in hex.
-pub(super) fn say_point(out: Stdout, p: Stored) -> io::Result<()> {
-    say_number(out, p.time)?;
-    say(out, b" ")?;
-    say_hex(out, p.bits, 16)
+#[derive(Clone, Copy)]
+pub(super) struct Point(pub(super) Stored);
+
+impl Display for Point {
+    fn fmt<W: fmt::Write>(&self, f: &mut Formatter<W>) -> fmt::Result {
+        let Stored { time, bits } = self.0;
+        write!(f, "{time} {bits:016x}")
+    }
+}
+
+// What a decoder's step answered.
+#[derive(Clone, Copy)]
+pub(super) struct Stepped(pub(super) Step);
+
+impl Display for Stepped {
+    fn fmt<W: fmt::Write>(&self, f: &mut Formatter<W>) -> fmt::Result {
+        match self.0 {
+            Step::Point(p, at) => write!(f, "point {} at {}", Point(p), at.get()),
+            Step::End(at) => write!(f, "end at {}", at.get()),
+            Step::Refused(why) => write!(f, "{}", Refused(why)),
+        }
+    }
 }

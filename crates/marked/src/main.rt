@@ -4,6 +4,7 @@
 #![tactic(auto)]
 
 mod calls;
+mod results;
 mod say;
 mod series;
 mod states;

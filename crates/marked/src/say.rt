@@ -1,104 +1,123 @@
-// What the program prints, piece by piece as it comes: numbers, points, codes, bytes and answers.
+// What the program prints: points, codes, bytes and answers. `lending` and `fields` have some of the same: a library of printing
+// would have public calls whose outcome is not stated, which document 01 forbids.
 
 use decode::std_decoder::Step;
-use encode::code::{Code, CodeAnswer};
+use encode::code::{Code, PointCode};
 use point::Stored;
+use std::fmt::{self, Display, Formatter};
 use std::io::{self, Stdout};
-use stream::{BitPos, Refusal};
+use stream::{BitPos, ByteCount, Refusal};
 
-pub(super) fn say(out: Stdout, text: &[u8]) -> io::Result<()> {
-    out.write_all(text)
+// "refused R"
+#[derive(Clone, Copy)]
+struct Refused(Refusal);
+
+impl Display for Refused {
+    fn fmt<W: fmt::Write>(&self, f: &mut Formatter<W>) -> fmt::Result {
+        let number = self.0.number();
+        write!(f, "refused {number}")
+    }
 }
 
-pub(super) fn say_number(out: Stdout, n: u64) -> io::Result<()> {
-    print!(out; "{n}")
+// What a call answered.
+#[derive(Clone, Copy)]
+pub(super) struct Told<T>(pub(super) Result<T, Refusal>);
+
+impl<T: Display> Display for Told<T> {
+    fn fmt<W: fmt::Write>(&self, f: &mut Formatter<W>) -> fmt::Result {
+        match &self.0 {
+            Ok(answer) => write!(f, "{answer}"),
+            Err(why) => write!(f, "{}", Refused(*why)),
+        }
+    }
 }
 
-// In hex, with zeros in front of a number that has fewer digits than the width.
-fn say_hex(out: Stdout, n: u64, width: usize) -> io::Result<()> {
-    print!(out; "{n:0width$x}")
-}
+// What a decoder's step answered.
+#[derive(Clone, Copy)]
+pub(super) struct Stepped(pub(super) Step);
 
-pub(super) fn say_refused(out: Stdout, r: Refusal) -> io::Result<()> {
-    say(out, b"refused ")?;
-    say_number(out, r.number() as u64)
+impl Display for Stepped {
+    fn fmt<W: fmt::Write>(&self, f: &mut Formatter<W>) -> fmt::Result {
+        match self.0 {
+            Step::Point(p, at) => write!(f, "point {} at {}", Point(p), at.get()),
+            Step::End(at) => write!(f, "end at {}", at.get()),
+            Step::Refused(why) => write!(f, "{}", Refused(why)),
+        }
+    }
 }
 
 // "T V", the value as its 64 bits in hex.
-pub(super) fn say_point(out: Stdout, p: Stored) -> io::Result<()> {
-    say_number(out, p.time)?;
-    say(out, b" ")?;
-    say_hex(out, p.bits, 16)
-}
+#[derive(Clone, Copy)]
+pub(super) struct Point(pub(super) Stored);
 
-// " B/L": L bits, as a number in hex.
-fn say_field(out: Stdout, k: Code) -> io::Result<()> {
-    say(out, b" ")?;
-    say_hex(out, k.bits, 1)?;
-    say(out, b"/")?;
-    say_number(out, k.len as u64)
-}
-
-// "code N bits B/L B/L window A B": what stands before a value's digits, the digits, and the zeros above and below them in the window after them.
-pub(super) fn say_code(out: Stdout, answer: CodeAnswer) -> io::Result<()> {
-    say(out, b"code ")?;
-    match answer {
-        CodeAnswer::Code(k) => {
-            let head = k.head;
-            let digits = k.digits;
-            say_number(out, head.len as u64 + digits.len as u64)?;
-            say(out, b" bits")?;
-            say_field(out, head)?;
-            say_field(out, digits)?;
-            say(out, b" window ")?;
-            say_number(out, k.leading as u64)?;
-            say(out, b" ")?;
-            say_number(out, k.trailing as u64)
-        }
-        CodeAnswer::Refused(r) => say_refused(out, r),
+impl Display for Point {
+    fn fmt<W: fmt::Write>(&self, f: &mut Formatter<W>) -> fmt::Result {
+        let Stored { time, bits } = self.0;
+        write!(f, "{time} {bits:016x}")
     }
 }
 
-fn say_at(out: Stdout, p: BitPos) -> io::Result<()> {
-    say(out, b" at ")?;
-    say_number(out, p.get() as u64)
-}
+// "B/L": L bits, as a number in hex.
+#[derive(Clone, Copy)]
+struct Field(Code);
 
-// A line for what a decoder's step answered.
-pub(super) fn say_step(out: Stdout, answer: Step) -> io::Result<()> {
-    match answer {
-        Step::Point(p, at) => {
-            say(out, b"point ")?;
-            say_point(out, p)?;
-            say_at(out, at)?;
-        }
-        Step::End(at) => {
-            say(out, b"end")?;
-            say_at(out, at)?;
-        }
-        Step::Refused(r) => say_refused(out, r)?,
+impl Display for Field {
+    fn fmt<W: fmt::Write>(&self, f: &mut Formatter<W>) -> fmt::Result {
+        let Code { bits, len } = self.0;
+        write!(f, "{bits:x}/{len}")
     }
-    say(out, b"\n")
 }
 
-fn wide(x: u8) -> u64 {
-    x as u64
+fn len_of(head: Code, digits: Code) -> u64 {
+    u64::from(head.len) + u64::from(digits.len)
 }
 
-fn say_bytes(out: Stdout, buf: &[u8]) -> io::Result<()> {
-    for x in buf {
-        say_hex(out, wide(*x), 2)?;
+// "N bits B/L B/L window A B": what stands before a value's digits, the digits, and the zeros above and below them in the window after them.
+#[derive(Clone, Copy)]
+pub(super) struct Coded(pub(super) PointCode);
+
+impl Display for Coded {
+    fn fmt<W: fmt::Write>(&self, f: &mut Formatter<W>) -> fmt::Result {
+        let PointCode {
+            head,
+            digits,
+            leading,
+            trailing,
+        } = self.0;
+        let len = len_of(head, digits);
+        write!(f, "{len} bits {} {} ", Field(head), Field(digits))?;
+        write!(f, "window {leading} {trailing}")
     }
-    Ok(())
+}
+
+// "M bits, N bytes"
+#[derive(Clone, Copy)]
+pub(super) struct Used(pub(super) (BitPos, ByteCount));
+
+impl Display for Used {
+    fn fmt<W: fmt::Write>(&self, f: &mut Formatter<W>) -> fmt::Result {
+        let (bits, bytes) = self.0;
+        write!(f, "{} bits, {} bytes", bits.get(), bytes.get())
+    }
+}
+
+// Two digits a byte.
+#[derive(Clone, Copy)]
+struct Hex<'a>(&'a [u8]);
+
+impl Display for Hex<'_> {
+    fn fmt<W: fmt::Write>(&self, f: &mut Formatter<W>) -> fmt::Result {
+        for b in self.0 {
+            write!(f, "{b:02x}")?;
+        }
+        Ok(())
+    }
 }
 
 // A line with the first n bytes and, behind a bar, the others, which must still be dirty.
 pub(super) fn say_buffer(out: Stdout, buf: &[u8], n: usize) -> io::Result<()> {
-    if n <= buf.len() {
-        say_bytes(out, &buf[0..n])?;
-        say(out, b"|")?;
-        say_bytes(out, &buf[n..])?;
-        say(out, b"\n")?;
+    if let Some((used, rest)) = buf.split_at_checked(n) {
+        println!(out; "{}|{}", Hex(used), Hex(rest))?;
     }
     Ok(())
 }

@@ -1,5 +1,0 @@
-use Rattle.answers.proofs.Filled.{filled}
-use Rattle.answers.proofs.buffers.page_buffer.Goals as goal
-
-pub returns : goal.returns
-returns c = filled 0 1048576
