@@ -3,7 +3,8 @@
 
 #![tactic(auto)]
 
-use point::{DataPoint, Ordering, Stored};
+use point::{DataPoint, Stored};
+use std::cmp::Ordering;
 use std::io::{self, Stdout};
 
 // Zeros, the smallest and the largest numbers, ones, a third, infinities, NaNs with and without sign and payload.
@@ -28,17 +29,17 @@ const PATTERNS: [u64; 16] = [
 
 // A point of these bits beside another: "=" if they are alike.
 fn alike(a: DataPoint, b: DataPoint) -> char {
-    if a.same(b) { '=' } else { '.' }
+    if a == b { '=' } else { '.' }
 }
 
 fn point_of(time: u64, bits: u64) -> DataPoint {
-    Stored { time, bits }.to_point()
+    DataPoint::from(Stored { time, bits })
 }
 
 // One value, what comes back of its bits, and how it stands to all of them, at the same time and at another.
 fn row(out: Stdout, bits: u64) -> io::Result<()> {
     let point = point_of(7, bits);
-    let Stored { time, bits: back } = point.to_stored();
+    let Stored { time, bits: back } = Stored::from(point);
     print!(out; "{bits:016x} {back:016x} {time} ")?;
     for other in PATTERNS {
         print!(out; "{}", alike(point, point_of(7, other)))?;

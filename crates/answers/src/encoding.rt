@@ -1,7 +1,6 @@
 // `e START TIME,VALUE..`: the encoder from its opening to its closing. The lent buffer is taken as the case before left it.
 
 use super::case::Fault;
-use super::results::{of_close, of_encode};
 use super::{Page, words};
 use encode::StdEncoder;
 use point::Stored;
@@ -21,16 +20,17 @@ pub(super) fn put_encoded(words: &[u8], buf: &mut [u8], page: &mut Page) -> Resu
         .ok_or(Fault::NoCase)?;
     words::ended(rest)?;
     let opened = StdEncoder::open(start, buf);
-    of_encode(opened.answer)?;
+    opened.answer?;
     let mut encoder = opened.encoder;
     for word in words {
         let (p, rest) = point_of(word).ok_or(Fault::NoCase)?;
         let done = encoder.encode(buf, p);
-        of_encode(done.answer)?;
+        done.answer?;
         words::ended(rest)?;
         encoder = done.encoder;
     }
-    let n = of_close(encoder.close(buf).answer)?.get();
+    let (_, bytes) = encoder.close(buf).answer?;
+    let n = bytes.get();
     if let Some(bytes) = buf.get(..n) {
         page.put_hex(bytes);
     }

@@ -13,7 +13,6 @@ mod encoding;
 mod lines;
 mod reading;
 mod record;
-mod results;
 mod text;
 mod words;
 mod writing;

@@ -1,7 +1,6 @@
 // `r BYTES READ..`: the bit reader from the first bit on, up to the first read that is refused.
 
 use super::case::Fault;
-use super::results::{of_bit, of_bits, of_byte};
 use super::{Page, words};
 use stream::{BufferedReader, Refusal};
 
@@ -38,19 +37,19 @@ fn answered(
     match read {
         Read::Bit => {
             let done = reader.read_bit(s);
-            (of_bit(done.answer), done.reader)
+            (done.answer.map(|bit| bit.to_u64()), done.reader)
         }
         Read::Byte => {
             let done = reader.read_byte(s);
-            (of_byte(done.answer), done.reader)
+            (done.answer.map(u64::from), done.reader)
         }
         Read::Bits(num) => {
             let done = reader.read_bits(s, num);
-            (of_bits(done.answer), done.reader)
+            (done.answer, done.reader)
         }
         Read::Peek(num) => {
             let done = reader.peak_bits(s, num);
-            (of_bits(done.answer), done.reader)
+            (done.answer, done.reader)
         }
     }
 }

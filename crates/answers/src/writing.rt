@@ -1,10 +1,9 @@
 // `w WRITE..`: the bit writer from the buffer's first bit on. The lent buffer is taken as the case before left it.
 
 use super::case::Fault;
-use super::results::of_write;
 use super::{Page, words};
 use stream::buffered_write::Written;
-use stream::{Bit, BufferedWriter};
+use stream::{Bit, BufferedWriter, ByteCount};
 
 // One write: of a bit, of a byte, or of a number's low bits.
 #[derive(Clone, Copy)]
@@ -44,11 +43,11 @@ pub(super) fn put_written(words: &[u8], buf: &mut [u8], page: &mut Page) -> Resu
     for word in words.split(|b| *b == b' ').skip(1) {
         let (write, rest) = write_of(word).ok_or(Fault::NoCase)?;
         let done = wrote(writer, write, buf);
-        of_write(done.answer)?;
+        done.answer?;
         words::ended(rest)?;
         writer = done.writer;
     }
-    if let Some(bytes) = buf.get(..writer.position().to_bytes().get()) {
+    if let Some(bytes) = buf.get(..ByteCount::from(writer.position()).get()) {
         page.put_hex(bytes);
     }
     Ok(())

@@ -4,9 +4,6 @@
 
 #![tactic(auto)]
 
-mod results;
-
-use results::{of_bit, of_bits, of_byte, of_in_bits, of_write};
 use std::fmt::{self, Display, Formatter};
 use std::io::{self, Stdout};
 use stream::buffered_write::Written;
@@ -112,7 +109,7 @@ fn write_case<D: Display + Drop, F: FnOnce(&mut [u8]) -> Written>(
     dirty(buf);
     let done = write(buf);
     let at = At(done.writer.position());
-    match of_write(done.answer) {
+    match done.answer {
         Ok(()) => println!(out; "{title}: done {at} {}", Hex(buf)),
         Err(why) => println!(out; "{title}: {} {at} {}", Refused(why), Hex(buf)),
     }
@@ -133,17 +130,17 @@ fn write_cases(out: Stdout, buf: &mut [u8], w: BufferedWriter) -> io::Result<()>
 // A read and a peek of n bits at the reader's place.
 fn read_case(out: Stdout, buf: &[u8], r: BufferedReader, n: u32) -> io::Result<()> {
     let read = r.read_bits(buf, n);
-    let read = Got(of_bits(read.answer), read.reader.position());
+    let read = Got(read.answer, read.reader.position());
     let peek = r.peak_bits(buf, n);
-    let peek = Got(of_bits(peek.answer), peek.reader.position());
+    let peek = Got(peek.answer, peek.reader.position());
     println!(out; "read {n}: {read}, peek: {peek}")
 }
 
 fn read_cases(out: Stdout, buf: &[u8], r: BufferedReader) -> io::Result<()> {
     let byte = r.read_byte(buf);
-    let byte = Got(of_byte(byte.answer), byte.reader.position());
+    let byte = Got(byte.answer.map(u64::from), byte.reader.position());
     let bit = r.read_bit(buf);
-    let bit = Got(of_bit(bit.answer), bit.reader.position());
+    let bit = Got(bit.answer.map(|bit| bit.to_u64()), bit.reader.position());
     println!(out; "read_byte: {byte}, read_bit: {bit}")?;
     for n in WIDTHS {
         read_case(out, buf, r, n)?;
@@ -164,11 +161,11 @@ fn run(out: Stdout, title: &str, other: &mut [u8], buf: &mut [u8], p: usize) -> 
 // Bytes as bits and bits as bytes.
 fn convert(out: Stdout, n: usize) -> io::Result<()> {
     print!(out; "{n} bytes: ")?;
-    match of_in_bits(ByteCount::new(n).to_bits()) {
+    match BitPos::try_from(ByteCount::new(n)) {
         Ok(place) => print!(out; "{}", At(place))?,
         Err(why) => print!(out; "{}", Refused(why))?,
     }
-    println!(out; ", {n} bits: {}", BitPos::new(n).to_bytes().get())
+    println!(out; ", {n} bits: {}", ByteCount::from(BitPos::new(n)).get())
 }
 
 fn main(rt: HostRuntime) -> io::Result<()> {

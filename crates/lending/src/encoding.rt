@@ -1,6 +1,5 @@
 // A series encoded in place, each call with a line that says what it was given and what it answered.
 
-use super::results::{of_close, of_encode};
 use super::say::{Point, Told};
 use encode::StdEncoder;
 use lent::encoder::{close_lent, encode_lent};
@@ -35,7 +34,7 @@ struct Encoder {
 impl Encoder {
     fn open(out: Stdout, buf: &mut [u8]) -> io::Result<Encoder> {
         let done = StdEncoder::open(0, buf);
-        println!(out; "open: {}", Told(of_encode(done.answer).map(|()| "done")))?;
+        println!(out; "open: {}", Told(done.answer.map(|()| "done")))?;
         let state = done.encoder;
         Ok(Encoder { out, state })
     }
@@ -44,7 +43,7 @@ impl Encoder {
         let p = Stored { time, bits };
         let done = encode_lent(self.state, buf, p);
         self.state = done.encoder;
-        let answer = of_encode(done.answer).map(|()| "done");
+        let answer = done.answer.map(|()| "done");
         println!(self.out; "{}: {}", Point(p), Told(answer))
     }
 
@@ -52,7 +51,7 @@ impl Encoder {
     fn close(&mut self, buf: &mut [u8]) -> io::Result<usize> {
         let done = close_lent(self.state, buf);
         self.state = done.encoder;
-        let used = of_close(done.answer);
+        let used = done.answer;
         println!(self.out; "close: {}", Told(used.map(Used)))?;
         Ok(used.map_or(0, |(_, bytes)| bytes.get()))
     }

@@ -1,6 +1,5 @@
 // Bytes read two fields at a time, each pair by one reader that holds them.
 
-use super::results::of_bits;
 use super::say::{Hex, Told};
 use lent::held_reader::{first_bits, read_two};
 use std::io::{self, Stdout};
@@ -9,8 +8,8 @@ use stream::BitPos;
 // "at PLACE, M and N bits: NUMBER, NUMBER", and the place after both.
 fn shown_two(out: Stdout, bytes: &[u8], place: BitPos, m: u32, n: u32) -> io::Result<BitPos> {
     let two = read_two(bytes, place, m, n);
-    let first = Told(of_bits(two.first).map(Hex));
-    let second = Told(of_bits(two.second).map(Hex));
+    let first = Told(two.first.map(Hex));
+    let second = Told(two.second.map(Hex));
     println!(out; "at {}, {m} and {n} bits: {first}, {second}", place.get())?;
     Ok(two.at)
 }
@@ -49,7 +48,7 @@ fn shown_m6(out: Stdout, bytes: &[u8]) -> io::Result<()> {
 pub(super) fn shown(out: Stdout, buf: &[u8], n: usize) -> io::Result<()> {
     // always so; the test shows that the slices lie in the buffer
     if n <= buf.len() && 8 <= n {
-        let first = of_bits(first_bits(&buf[8..n], 64));
+        let first = first_bits(&buf[8..n], 64);
         println!(out; "64 bits behind the start: {}", Told(first.map(Hex)))?;
         shown_m6(out, &buf[..n])?;
         shown_two(out, buf, BitPos::new(232), 8, 16)?;

@@ -1,6 +1,5 @@
 // The calls of the encoder and the decoder, each with a line that says what it was given and what it answered.
 
-use super::results::{of_close, of_code, of_encode, of_open};
 use super::say::{Coded, Point, Stepped, Told, Used, say_buffer};
 use decode::StdDecoder;
 use decode::std_decoder::Step;
@@ -29,16 +28,16 @@ impl Encoder {
         println!(out;
             "open on {} bytes: {}",
             buf.len(),
-            Told(of_encode(done.answer).map(|()| "done"))
+            Told(done.answer.map(|()| "done"))
         )?;
         let state = done.encoder;
         Ok(Encoder { out, state })
     }
 
     // "T V: ANSWER, code CODE": of what was offered, and the code that it had before.
-    fn tell(&mut self, p: Stored, done: Encoded) -> io::Result<()> {
-        let answer = of_encode(done.answer).map(|()| "done");
-        let code = of_code(self.state.code_of(p)).map(Coded);
+    fn tell(&mut self, p: Stored, done: Encoded<()>) -> io::Result<()> {
+        let answer = done.answer.map(|()| "done");
+        let code = self.state.code_of(p).map(Coded);
         self.state = done.encoder;
         println!(self.out; "{}: {}, code {}", Point(p), Told(answer), Told(code))
     }
@@ -51,7 +50,7 @@ impl Encoder {
     // The same for a point with a float.
     pub(super) fn offer_float(&mut self, buf: &mut [u8], time: u64, value: f64) -> io::Result<()> {
         let p = DataPoint::new(time, value);
-        self.tell(p.to_stored(), self.state.encode_point(buf, p))
+        self.tell(Stored::from(p), self.state.encode_point(buf, p))
     }
 
     // Times and values' bits, one after the other.
@@ -65,14 +64,14 @@ impl Encoder {
     // "T V: code CODE", of a point that is not offered.
     pub(super) fn ask(&self, time: u64, bits: u64) -> io::Result<()> {
         let p = Stored { time, bits };
-        let code = of_code(self.state.code_of(p)).map(Coded);
+        let code = self.state.code_of(p).map(Coded);
         println!(self.out; "{}: code {}", Point(p), Told(code))
     }
 
     // Answers how many bytes are in use; 0 if it was refused.
     pub(super) fn close(&mut self, buf: &mut [u8]) -> io::Result<usize> {
         let done = self.state.close(buf);
-        let used = of_close(done.answer);
+        let used = done.answer;
         self.state = done.encoder;
         println!(self.out; "close: {}", Told(used.map(Used)))?;
         Ok(used.map_or(0, |(_, bytes)| bytes.get()))
@@ -140,7 +139,7 @@ impl Decoder {
         println!(out;
             "decode {} bytes: {}",
             buf.len(),
-            Told(of_open(done.answer).map(|()| "done"))
+            Told(done.answer.map(|()| "done"))
         )?;
         let state = done.decoder;
         Ok(Decoder { out, state })

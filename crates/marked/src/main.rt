@@ -4,7 +4,6 @@
 #![tactic(auto)]
 
 mod calls;
-mod results;
 mod say;
 mod series;
 mod states;

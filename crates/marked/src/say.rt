@@ -3,6 +3,7 @@
 
 use decode::std_decoder::Step;
 use encode::code::{Code, PointCode};
+use layout::Window;
 use point::Stored;
 use std::fmt::{self, Display, Formatter};
 use std::io::{self, Stdout};
@@ -81,12 +82,11 @@ impl Display for Coded {
         let PointCode {
             head,
             digits,
-            leading,
-            trailing,
+            window: Window { lead, trail },
         } = self.0;
         let len = len_of(head, digits);
         write!(f, "{len} bits {} {} ", Field(head), Field(digits))?;
-        write!(f, "window {leading} {trailing}")
+        write!(f, "window {lead} {trail}")
     }
 }
 

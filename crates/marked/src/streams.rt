@@ -4,7 +4,7 @@ use super::calls::decoded;
 use super::say::say_buffer;
 use encode::StdEncoder;
 use std::io::{self, Stdout};
-use stream::{Bit, BufferedWriter};
+use stream::{Bit, BufferedWriter, ByteCount};
 
 fn with_digit(w: BufferedWriter, buf: &mut [u8], digit: u8) -> BufferedWriter {
     match digit {
@@ -30,7 +30,7 @@ fn with_start(out: Stdout, buf: &mut [u8], start: u64) -> io::Result<BufferedWri
 // The last digits of a stream, then its bytes and what they are decoded to.
 fn ended_by(out: Stdout, w: BufferedWriter, buf: &mut [u8], digits: &str) -> io::Result<()> {
     println!(out; ", then {digits}")?;
-    let n = with_digits(w, buf, digits).position().to_bytes().get();
+    let n = ByteCount::from(with_digits(w, buf, digits).position()).get();
     say_buffer(out, buf, n)?;
     decoded(out, buf, n)
 }

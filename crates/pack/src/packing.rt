@@ -2,7 +2,6 @@
 
 use super::lines::{Fault, Line};
 use encode::StdEncoder;
-use encode::std_encoder::{CloseAnswer, EncodeAnswer};
 use point::Stored;
 use std::io;
 use stream::Refusal;
@@ -66,9 +65,7 @@ impl<'a> Packing<'a> {
     // Offers the point of a whole line; the next line begins.
     fn offer(&mut self, point: Stored) -> Result<(), Refusal> {
         let offered = self.encoder.encode(self.buf, point);
-        if let EncodeAnswer::Refused(why) = offered.answer {
-            return Err(why);
-        }
+        offered.answer?;
         self.encoder = offered.encoder;
         self.line = Line::new();
         // there are not so many lines that it stops growing
@@ -120,10 +117,8 @@ impl<'a> Packing<'a> {
     // Closes the stream and answers its bytes.
     pub(super) fn close(self) -> Result<&'a [u8], Refusal> {
         let Packing { buf, encoder, .. } = self;
-        match encoder.close(buf).answer {
-            CloseAnswer::Refused(why) => Err(why),
-            // never more than the buffer has; that is not proved here, and were it wrong, nothing would be written
-            CloseAnswer::Used(_, bytes) => Ok(buf.get(..bytes.get()).unwrap_or(&[])),
-        }
+        let (_, bytes) = encoder.close(buf).answer?;
+        // never more than the buffer has; that is not proved here, and were it wrong, nothing would be written
+        Ok(buf.get(..bytes.get()).unwrap_or(&[]))
     }
 }

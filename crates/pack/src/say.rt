@@ -5,37 +5,13 @@ use super::packing::Stopped;
 use std::{fmt, io};
 use stream::Refusal;
 
-// The name that document 01's table gives a refusal.
-#[derive(Clone, Copy)]
-struct Named(Refusal);
-
-impl fmt::Display for Named {
-    fn fmt<W: fmt::Write>(&self, f: &mut fmt::Formatter<W>) -> fmt::Result {
-        f.write_str(match self.0 {
-            Refusal::NoRoom => "no room",
-            Refusal::TimeFalls => "time falls",
-            Refusal::FirstDelta => "first delta",
-            Refusal::DodRange => "dod range",
-            Refusal::TooLong => "too long",
-            Refusal::NoStart => "no start",
-            Refusal::CutShort => "cut short",
-            Refusal::BadEnd => "bad end",
-            Refusal::BadWindow => "bad window",
-            Refusal::ReadTimeFalls => "read time falls",
-            Refusal::ReadTimePasses => "read time passes",
-            Refusal::Closed => "closed",
-            Refusal::NoFit => "no fit",
-        })
-    }
-}
-
 // "refused N (NAME)"
 #[derive(Clone, Copy)]
 struct Refused(Refusal);
 
 impl fmt::Display for Refused {
     fn fmt<W: fmt::Write>(&self, f: &mut fmt::Formatter<W>) -> fmt::Result {
-        write!(f, "refused {} ({})", self.0.number(), Named(self.0))
+        write!(f, "refused {} ({})", self.0.number(), self.0)
     }
 }
 
