@@ -4,10 +4,7 @@ use mathlib.Core.List.{List}
 use Prim.Native.Nat.{ℕ}
 use lib.ListN.{length}
 use Rattle.std.specs.Prelude.{⊤}
-use Rattle.std.specs.declared.result.Result.{Result}
-use Rattle.stream.specs.Calls.{Told}
 use Rattle.stream.specs.Promises.{AreBytes, Tells}
-use Rattle.stream.specs.declared.refusal.Refusal.{Refusal}
 use Rattle.stream.specs.declared.position.BitPos.{BitPos}
 use Rattle.stream.specs.declared.position.ByteCount.{ByteCount}
 use Rattle.stream.proofs.Bytes.{bits_inj}
@@ -17,7 +14,7 @@ use Rattle.encode.specs.declared.std_encoder.StdEncoder.{StdEncoder}
 use Rattle.encode.specs.declared.std_encoder.Encoded.{Encoded}
 use Rattle.encode.specs.declared.code.PointCode.{PointCode}
 use Rattle.encode.specs.States.{Enc, view}
-use Rattle.encode.specs.Codes.{in_code, tell_code}
+use Rattle.encode.specs.Codes.{in_code}
 use Rattle.encode.specs.Calls.{Outcome, told, no_values, in_use, open_fault, standing, point_fault, open_of, encode_of, close_of}
 use Rattle.encode.specs.Lists.{Packing}
 use Rattle.encode.specs.Promises.{OneOutcome, RefusedNothings}
@@ -33,8 +30,8 @@ close_told u v e =
     let b : u.1.0 ≡ v.1.0 = cc in
     λ i. (record { 0 = a i }, record { 0 = b i })
 
-numbers_told : Tells PointCode (List ℕ) in_code
-numbers_told k j e =
+code_told : Tells PointCode (List ℕ) in_code
+code_told k j e =
     let a : k.head.bits ≡ j.head.bits = cc in
     let b : k.head.len ≡ j.head.len = cc in
     let d : k.digits.bits ≡ j.digits.bits = cc in
@@ -42,9 +39,6 @@ numbers_told k j e =
     let g : k.window.lead ≡ j.window.lead = cc in
     let h : k.window.trail ≡ j.window.trail = cc in
     λ i. record { head = record { bits = a i; len = b i }; digits = record { bits = d i; len = f i }; window = record { lead = g i; trail = h i } }
-
-code_told : Tells (Result PointCode Refusal) Told tell_code
-code_told = stream.told in_code numbers_told
 
 -- an encoder is its numbers
 by_view : Tells StdEncoder Enc view
@@ -71,7 +65,7 @@ pub one_outcome : OneOutcome
 one_outcome = record {
   encode = once no_values none_told;
   close = once in_use close_told;
-  code = code_told;
+  code = stream.told in_code code_told;
   pack = λ r s l m a b e.
       let o = once no_values none_told r.last s.last l m a b (ap (λ (o : Packing). o.1) e) in
       (λ i. record { accepted = (e i).0; last = o.0 i }, o.1);
