@@ -40,7 +40,7 @@ fn number_of(word: &[u8], radix: u32, lengths: RangeInclusive<usize>) -> Option<
     Some((n, rest))
 }
 
-// Zeros in front count as digits.
+// Of at most 1,001 digits, as this program always took them; zeros in front count.
 pub(super) fn decimal_of(word: &[u8]) -> Option<(u64, &[u8])> {
     number_of(word, 10, 1..=1001)
 }

@@ -118,8 +118,10 @@ fn write_case<D: Display + Drop, F: FnOnce(&mut [u8]) -> Written>(
 // A byte, each bit and a field of each width, at the writer's place.
 fn write_cases(out: Stdout, buf: &mut [u8], w: BufferedWriter) -> io::Result<()> {
     write_case(out, "write_byte", buf, |buf| w.write_byte(buf, 0x5a))?;
-    write_case(out, "write_bit 0", buf, |buf| w.write_bit(buf, Bit::Zero))?;
-    write_case(out, "write_bit 1", buf, |buf| w.write_bit(buf, Bit::One))?;
+    for bit in [Bit::Zero, Bit::One] {
+        let title = format_args!("write_bit {}", bit.to_u64());
+        write_case(out, title, buf, |buf| w.write_bit(buf, bit))?;
+    }
     for n in WIDTHS {
         let title = format_args!("write {n}");
         write_case(out, title, buf, |buf| w.write_bits(buf, VALUE, n))?;

@@ -47,7 +47,7 @@ impl Encoder {
         self.tell(p, self.state.encode(buf, p))
     }
 
-    // The same for a point with a float.
+    // The same for a point with a float, by the call that takes one: both calls are tested.
     pub(super) fn offer_float(&mut self, buf: &mut [u8], time: u64, value: f64) -> io::Result<()> {
         let p = DataPoint::new(time, value);
         self.tell(Stored::from(p), self.state.encode_point(buf, p))
