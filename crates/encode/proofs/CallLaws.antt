@@ -6,7 +6,7 @@ use Prim.Native.Nat.{ℕ, ◌+◌, ◌-◌, ◌*◌, ◌≤◌, ◌<◌}
 use native.Mathlib.Omega.{arith}
 use borrow.Author.Tests.{ltb-false, eqb-true, le-ltb, lt-ltb, eq-eqb, ne_eqb, not-false}
 use lib.ListN.{length, length-append}
-use Rattle.std.specs.Prelude.{Ok, Err, ⊤}
+use Rattle.std.specs.Prelude.{Err, ⊤}
 use Rattle.std.specs.declared.result.Result.{Result}
 use Rattle.stream.specs.Bits.{bits_of, value_of, bits, bytes_for, replaced}
 use Rattle.stream.specs.Refusals.{number_of, when, or_else}
@@ -20,10 +20,9 @@ use Rattle.stream.proofs.Outcomes.{none_holds, not_when, or_some, or_none, by_no
 use Rattle.layout.specs.Windows.{window, bad_window}
 use Rattle.layout.specs.Writing.{Point, state, time_fault, start_bits, marker, point_bits, state_after}
 use Rattle.layout.proofs.Tests.{neither}
-use Rattle.point.specs.declared.Stored.{Stored}
 use Rattle.encode.specs.declared.code.Code.{Code}
 use Rattle.encode.specs.declared.code.PointCode.{PointCode}
-use Rattle.encode.specs.States.{Enc, enc, progress, point_of}
+use Rattle.encode.specs.States.{Enc, enc, progress}
 use Rattle.encode.specs.Calls.{Outcome, no_values, tell_encode, no_fit, standing, room_fault, point_fault, open_fault, fresh, shut, open_of, after, encode_of, marked, close_of}
 use Rattle.encode.specs.Promises.{OpenFault, Misfit, StandingFault, PointFault}
 use Rattle.encode.specs.Parts.{word_of, words, Coded}
@@ -79,9 +78,6 @@ unfolding standing
 not_closed e n z = not_when _ 12 (omega arith) (none_holds _ _ z).0
 
 -- what the private test answers
-pub is_clear : (s : Result ⊤ Refusal) (k : ℕ) (done : ⊤) → fault_of s ≡ k → s ≡ Ok done → 0 ≡ k
-is_clear s k done e h = sym (ap fault_of h) ∙ e
-
 pub is_refused : (s : Result ⊤ Refusal) (k : ℕ) (r : Refusal) → fault_of s ≡ k → s ≡ Err r → number_of r ≡ k
 is_refused s k r e h = sym (ap fault_of h) ∙ e
 
@@ -174,10 +170,6 @@ module _ (e : Enc) (n : ℕ) (bs : List Bool) (p : Point) (k : PointCode) (z : 0
       (given [], enc e.len q (state p.time (p.time - e.time) p.value k.window) false e.closed, m)
       (given [], after 6 e p, replaced bs e.at (point_bits 6 (progress e) p)) = λ i. (given [], enc e.len (place i) (kept i) false (not_closed e n z i), put i) in
       done ∙ sym (accepted 6 e n bs p ((point_faults 6 e n bs p).none (sym z) (sym d.0) (rw size_is h)))
-
--- the same point in its other form
-pub same_point : (e : Enc) (n : ℕ) (bs : List Bool) (o : Outcome) (p q : Stored) → p ≡ q → o ≡ encode_of 6 e n bs (point_of p) → o ≡ encode_of 6 e n bs (point_of q)
-same_point e n bs o p q h f = f ∙ ap (λ (x : Stored). encode_of 6 e n bs (point_of x)) h
 
 -- ---- the two ends
 
