@@ -6,7 +6,7 @@ use Prim.Native.Nat.{ℕ, ◌+◌, ◌-◌, ◌*◌, ◌≤◌, ◌<◌}
 use native.Mathlib.Omega.{arith}
 use borrow.Author.Tests.{ltb-false, eqb-true, le-ltb, lt-ltb, eq-eqb, ne_eqb, not-false}
 use lib.ListN.{length, length-append}
-use Rattle.std.specs.Prelude.{Ok, Err, ⊤}
+use Rattle.std.specs.Prelude.{Err, ⊤}
 use Rattle.std.specs.declared.result.Result.{Result}
 use Rattle.stream.specs.Bits.{bits_of, value_of, bits, bytes_for, replaced}
 use Rattle.stream.specs.Refusals.{number_of, when, or_else}
@@ -78,9 +78,6 @@ unfolding standing
 not_closed e n z = not_when _ 12 (omega arith) (none_holds _ _ z).0
 
 -- what the private test answers
-pub is_clear : (s : Result ⊤ Refusal) (k : ℕ) (done : ⊤) → fault_of s ≡ k → s ≡ Ok done → 0 ≡ k
-is_clear s k done e h = sym (ap fault_of h) ∙ e
-
 pub is_refused : (s : Result ⊤ Refusal) (k : ℕ) (r : Refusal) → fault_of s ≡ k → s ≡ Err r → number_of r ≡ k
 is_refused s k r e h = sym (ap fault_of h) ∙ e
 

@@ -19,7 +19,7 @@ use Rattle.std.specs.declared.option.Option.{Option}
 use Rattle.std.specs.declared.result.Result.{Result}
 use Rattle.stream.specs.Bits.{bits_of, value_of}
 use Rattle.stream.specs.declared.refusal.Refusal.{Refusal}
-use Rattle.stream.specs.Calls.{Told, given, refused}
+use Rattle.stream.specs.Calls.{given, refused}
 use Rattle.stream.proofs.Numbers.{length_bits_of, value_bits_of, bits_of_join}
 use Rattle.stream.proofs.Outcomes.{by_none, by_some, number_pos}
 use Rattle.layout.specs.declared.Window.{Window}
@@ -187,9 +187,6 @@ state_is e p = state_by e.first (kept e) p
 -- ---- by what an encoder keeps of the last point
 
 module _ (e : Enc) (k : Last) (h : k ≡ last_of e) (p : Point) where
-  pub last_told : (t : Told) → t ≡ code_of 6 (progress_in k) p → t ≡ code_of 6 (progress e) p
-  last_told t f = f ∙ ap (λ (x : Last). code_of 6 (progress_in x) p) h
-
   -- the answer in its case
   pub last_meets : (a b : Result PointCode Refusal) → Meets (progress_in k) p a → a ≡ b → Meets (progress e) p b
   last_meets a b m f = subst (λ (x : Result PointCode Refusal). Meets (progress e) p x) f (subst (λ (x : Last). Meets (progress_in x) p a) h m)

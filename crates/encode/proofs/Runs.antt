@@ -131,10 +131,6 @@ module _ (v e : Enc) (t z n m : ℕ) (a : v ≡ ahead t z e) where
   pub caught_stands : 0 ≡ standing 6 e n → e.at + z + 36 ≤ 8 * e.len → m ≡ n → 0 ≡ standing 6 v m
   caught_stands h r k = rw (a, k) (ahead_stands t z n e h r)
 
-  pub offered_behind : (o : Outcome) (b bs : List Bool) (p : Point) → (o ≡ encode_of 6 v m b p) × (0 ≡ standing 6 o.1 m) → b ≡ zeroed bs e.at z → m ≡ n
-      → (o ≡ encode_of 6 (ahead t z e) n (zeroed bs e.at z) p) × (0 ≡ standing 6 o.1 n)
-  offered_behind o b bs p q w k = (q.0 ∙ (λ i. encode_of 6 (a i) (k i) (w i) p), moved_stands o.1 m n q.1 (sym k))
-
 -- ---- turns of the loop
 
 -- no zeros wait

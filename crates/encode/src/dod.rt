@@ -13,6 +13,7 @@ pub(super) fn dod_between(delta: u64, previous: u64) -> Option<i64>
 {
     let d = i128::from(delta) - i128::from(previous);
     if -2_147_483_647 <= d && d <= 2_147_483_648 {
+        // `as`: there is no From of an i128, and what is in range fits
         return Some(d as i64);
     }
     None

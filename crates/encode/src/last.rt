@@ -15,7 +15,7 @@ use stream::Refusal;
 #[derive(Clone, Copy, Debug, PartialEq, Eq)]
 pub struct Last {
     pub kept: State,
-    // no Option of a last point: before the first one a time and a window are kept too, and document 01 names them as fields of the state
+    // no Option of a last point: before the first one a time and a window are kept too, and document 01 has a state's fields zero where it is closed
     pub first: bool,
 }
 
@@ -70,7 +70,7 @@ pub(super) fn code_after(last: Last, p: Stored) -> Result<PointCode, Refusal>
 }
 
 impl Last {
-    // The code of a point that follows: 2, then 3 or 4.
+    // The code of a point that follows: 2, then 3 or 4. What `code_after` promises is in its parts, as the writer needs it; here it is told.
     pub fn code_of(self, point: Stored) -> Result<PointCode, Refusal>
         ensures { tell_code result ≡ code_of 6 (progress_in self) (point_of point) }
     {

@@ -47,6 +47,7 @@ impl Waiting {
             encoder: e,
             time: e.kept.time,
             zeros: 0,
+            // `as`: there is no From of a usize, and 62 fits
             most: left.min(62) as u32,
         }
     }
@@ -133,6 +134,7 @@ fn pack_points(encoder: StdEncoder, buf: &mut [u8], times: &[u64], values: &[u64
 {
     let n = points_in(times, values);
     let mut waiting = Waiting::none(encoder);
+    // by place, and no pairs of the two: the place is also how many were accepted
     for i in 0..n {
         let p = Stored {
             time: times[i],

@@ -22,7 +22,7 @@ use stream::{BitPos, BufferedWriter, ByteCount, LIMIT, Refusal};
 pub struct StdEncoder {
     pub(super) kept: State,
     pub(super) first: bool,
-    // no enum of an open and a closed one: document 01 has both the same fields, and closing leaves the others as they were
+    // no enum of an open and a closed one: document 01 gives both the same fields, and closing returns the others as they were
     closed: bool,
     pub(super) len: ByteCount,
     pub(super) w: BufferedWriter,
@@ -73,7 +73,8 @@ pub(super) fn standing_of(e: StdEncoder, n: usize) -> Result<(), Refusal>
     Ok(())
 }
 
-// ---- a point
+// ---- a point. That a state stands is a clause of each function from here on, and no type of its own: it is about the encoder and the buffer that a
+// call is lent, together.
 
 // The encoder that was given, and why a call is refused.
 pub(super) fn refuse<T>(e: StdEncoder, why: Refusal) -> Encoded<T>
@@ -91,6 +92,7 @@ fn write_point(e: StdEncoder, buf: &mut [u8], p: Stored, k: PointCode) -> Encode
     ensures { (told_encoded result buf.new ≡ encode_of 6 (view e) (length buf.old) (bits buf.old) (point_of p)) × (0 ≡ standing 6 (view result.encoder) (length buf.old)) }
 {
     let all = 8 * e.len.get();
+    // `as`: there is no From of a u32 for a usize
     let need = k.head.len as usize + k.digits.len as usize;
     let end = bits_before(e.w) + need;
     let with_marker = end + StdEncoder::END_MARKER_LEN as usize;

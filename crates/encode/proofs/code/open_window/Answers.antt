@@ -4,11 +4,6 @@ use Rattle.encode.specs.Parts.{word_of, words}
 use Rattle.encode.proofs.Values.{open_words}
 use Rattle.encode.proofs.code.open_window.Goals as goal
 
-pub with-head-requires : goal.with-head-requires
-with-head-requires c =
-    let b = c.with-zeros.ensures in
-    let a = c.with-control.ensures in record { short = b.1; n_bound = omega (arith, b.0, a.0, c.requires.len_bound.0); low_bound = omega (arith, c.digits_of-digits.ensures.0) }
-
 pub returns : goal.returns
 unfolding words
 returns c =

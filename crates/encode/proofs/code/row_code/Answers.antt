@@ -1,16 +1,13 @@
 use mathlib.Core.Path.{◌∙◌}
 use native.Mathlib.Omega.{arith}
 use mir.Facts.{to_z-of_z}
-use Rattle.layout.proofs.Fields.{in_row_lem, span_back}
+use Rattle.layout.proofs.Fields.{span_back}
 use Rattle.encode.specs.Parts.{word_of}
 use Rattle.encode.proofs.Codes.{row_word}
 use Rattle.encode.proofs.code.row_code.Goals as goal
 
-pub field_of-requires : goal.field_of-requires
-field_of-requires c = let g = c.requires.good in record { n_some = g.spans.some; n_bound = g.narrow; d_value = rw (to_z-of_z c.ranges.d) (in_row_lem _ _ g.spans c.requires.d_value) }
-
-pub with-requires : goal.with-requires
-with-requires c = let g = c.requires.good in record { short = g.whole; n_bound = omega (arith, g.short, g.narrow); low_bound = rw (c.field_of.ensures, to_z-of_z c.ranges.d) (span_back _ _ g.spans c.requires.d_value).whole }
+pub with-requires-clause-low_bound : goal.with-requires-clause-low_bound
+with-requires-clause-low_bound c = rw (c.field_of.ensures, to_z-of_z c.ranges.d) (span_back _ _ c.requires.good.spans c.requires.d_value).whole
 
 pub returns : goal.returns
 unfolding word_of

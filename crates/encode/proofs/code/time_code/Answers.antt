@@ -8,9 +8,6 @@ pub returns-then-d-eq0 : goal.returns-then-d-eq0
 unfolding word_of
 returns-then-d-eq0 c = (omega arith, omega arith, dod_zero _ (zero_is _ c.ranges.d c.if-d-eq0.true))
 
-pub row_code-requires : goal.row_code-requires
-row_code-requires c = let k = c.row_of.ensures in record { good = k.2; d_value = k.1 }
-
 pub returns : goal.returns
 returns c =
     let k = c.row_code.ensures in

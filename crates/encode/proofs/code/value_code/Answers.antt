@@ -20,8 +20,8 @@ returns-then-x-eq0 c =
       window = x.1;
     }
 
-pub reuse-requires : goal.reuse-requires
-reuse-requires c = let r = sym c.covers.ensures ∙ c.if-covers.true in record { len_bound = c.requires; room = covers_room _ c.args.x (omega arith) c.ranges.x.fits r; x_value = r }
+pub reuse-requires-clause-room : goal.reuse-requires-clause-room
+reuse-requires-clause-room c = covers_room _ c.args.x (omega arith) c.ranges.x.fits (sym c.covers.ensures ∙ c.if-covers.true)
 
 pub returns-then-covers : goal.returns-then-covers
 returns-then-covers c = holds_xor (word_of c.args.time) _ _ _ _ _ c.reuse.ensures (xor_reused _ c.args.x (omega arith) (sym c.covers.ensures ∙ c.if-covers.true))

@@ -1,11 +1,8 @@
-use mathlib.Core.Path.{refl, sym, ◌∙◌}
+use mathlib.Core.Path.{sym, ◌∙◌}
 use native.Mathlib.Omega.{arith}
 use mir.Facts.{to_z-of_z}
 use Rattle.encode.proofs.Codes.{row_here, row_next, one_takes}
 use Rattle.encode.proofs.dod.row_of.Goals as goal
-
-pub loop-row-init : goal.loop-row-init
-loop-row-init c = refl
 
 pub returns-then-takes : goal.returns-then-takes
 returns-then-takes c = row_here _ c.loop-row.row-index _ c.loop-row.invariant (omega arith) _ (to_z-of_z c.ranges.d) (sym c.takes.ensures ∙ c.if-takes.true)

@@ -25,9 +25,6 @@ loop-i-preserved-then-takes c =
       told = rw (w.0, w.1, w.2) (two_wait c.args.times.now c.args.values.now loop.i _ (view loop.waiting.encoder) _ _ _ _ loop.invariant.told t.1 loop.invariant.stands within (omega (arith, t.0, loop.waiting.room.1)) (omega (arith, c.points_in-n.ensures)));
     }
 
-pub offer-r-requires : goal.offer-r-requires
-offer-r-requires c = moved_stands _ _ _ c.loop-i.invariant.stands c.loop-i.auto.buf
-
 pub returns-in-Err : goal.returns-in-Err
 returns-in-Err c =
     let loop = c.loop-i in
@@ -46,9 +43,6 @@ loop-i-preserved c =
       stands = moved_stands _ _ _ o.ensures.1 (sym loop.auto.buf);
       told = none_wait (view o.result.encoder) _ _ _ _ _ _ _ w.1 w.2 (accepted c.args.times.now c.args.values.now loop.i _ _ _ _ _ _ _ _ o.ensures.0 loop.invariant.told c.in-Ok.is (omega (arith, c.points_in-n.ensures)) loop.auto.buf);
     })
-
-pub packed_all-requires : goal.packed_all-requires
-packed_all-requires c = moved_stands _ _ _ c.loop-i.invariant.stands c.loop-i.auto.buf
 
 pub returns : goal.returns
 returns c =

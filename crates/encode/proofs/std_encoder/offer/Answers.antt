@@ -5,12 +5,11 @@ use Rattle.encode.proofs.Points.{last_meets}
 use Rattle.encode.proofs.Standing.{refused_stands}
 use Rattle.encode.specs.Parts.{Meets}
 use mathlib.Core.Path.{◌∙◌}
-use borrow.Author.Rules.{rules}
 use Rattle.encode.proofs.std_encoder.offer.Goals as goal
 
-pub write_point-requires : goal.write_point-requires
+pub write_point-requires-clause-coded : goal.write_point-requires-clause-coded
 unfolding Meets
-write_point-requires c = record { value = search rules; coded = last_meets (view c.args.e) _ c.last.ensures _ _ _ c.code_after.ensures c.in-Ok.is }
+write_point-requires-clause-coded c = last_meets (view c.args.e) _ c.last.ensures _ _ _ c.code_after.ensures c.in-Ok.is
 
 pub returns-in-Err : goal.returns-in-Err
 unfolding Meets
