@@ -98,7 +98,7 @@ fn extend(raw: u64, n: u32) -> u64
         return raw;
     }
     let all: u64 = 1u64 << n;
-    std::num::wrapping_sub_u64(raw, all)
+    raw.wrapping_sub(all)
 }
 
 // The new time behind a dod, and the delta that leads to it: 10, or 11 where already the delta passes 2^64 - 1; then the delta by a sum that wraps as in the Rust and is by now
@@ -119,7 +119,7 @@ pub(super) fn new_time(time: u64, delta: u64, raw: u64, n: u32) -> Result<(u64, 
             return Err(Refusal::ReadTimePasses);
         }
     }
-    let next = std::num::wrapping_add_u64(delta, dod);
+    let next = delta.wrapping_add(dod);
     if u64::MAX - time < next {
         return Err(Refusal::ReadTimePasses);
     }

@@ -25,10 +25,10 @@ pub returns-then-time-next : goal.returns-then-time-next
 unfolding then_found
 returns-then-time-next c q s f =
     -- behind both checks the wrapping sum is the true one
-    let sum : pos c.args.delta +ℤ signed c.args.n c.args.raw ≡ pos c.wrapping_add_u64-next.result =
+    let sum : pos c.args.delta +ℤ signed c.args.n c.args.raw ≡ pos c.wrapping_add-next.result =
     elim c.if-half-raw.branch [
-      | then-half-raw+else-delta-all w ↦ wraps_below _ _ (search rules) (search rules) (search rules) _ _ _ (search rules) c.extend-dod.ensures c.wrapping_add_u64-next.ensures.value (omega arith) (omega arith)
-      | else-half-raw+else-delta-raw w ↦ wraps_above _ _ (search rules) (search rules) (search rules) _ _ _ (search rules) c.extend-dod.ensures c.wrapping_add_u64-next.ensures.value (omega arith) (omega arith)
+      | then-half-raw+else-delta-all w ↦ wraps_below _ _ (search rules) (search rules) (search rules) _ _ _ (search rules) c.extend-dod.ensures c.wrapping_add-next.ensures.value (omega arith) (omega arith)
+      | else-half-raw+else-delta-raw w ↦ wraps_above _ _ (search rules) (search rules) (search rules) _ _ _ (search rules) c.extend-dod.ensures c.wrapping_add-next.ensures.value (omega arith) (omega arith)
     ] in
     time_passes c.args.time q s f _ _ sum (omega arith)
 
@@ -36,9 +36,9 @@ pub returns : goal.returns
 unfolding then_found
 returns c q s f =
     -- behind both checks the wrapping sum is the true one
-    let sum : pos c.args.delta +ℤ signed c.args.n c.args.raw ≡ pos c.wrapping_add_u64-next.result =
+    let sum : pos c.args.delta +ℤ signed c.args.n c.args.raw ≡ pos c.wrapping_add-next.result =
     elim c.if-half-raw.branch [
-      | then-half-raw+else-delta-all w ↦ wraps_below _ _ (search rules) (search rules) (search rules) _ _ _ (search rules) c.extend-dod.ensures c.wrapping_add_u64-next.ensures.value (omega arith) (omega arith)
-      | else-half-raw+else-delta-raw w ↦ wraps_above _ _ (search rules) (search rules) (search rules) _ _ _ (search rules) c.extend-dod.ensures c.wrapping_add_u64-next.ensures.value (omega arith) (omega arith)
+      | then-half-raw+else-delta-all w ↦ wraps_below _ _ (search rules) (search rules) (search rules) _ _ _ (search rules) c.extend-dod.ensures c.wrapping_add-next.ensures.value (omega arith) (omega arith)
+      | else-half-raw+else-delta-raw w ↦ wraps_above _ _ (search rules) (search rules) (search rules) _ _ _ (search rules) c.extend-dod.ensures c.wrapping_add-next.ensures.value (omega arith) (omega arith)
     ] in
     time_got _ q s f _ _ sum (omega arith)
