@@ -7,7 +7,7 @@ ghost use Rattle.stream.specs.Bits.{bits};
 ghost use Rattle.stream.specs.Calls.{limit};
 ghost use Rattle.layout.specs.Rows.{row7, longer_rows, row32, signed};
 ghost use Rattle.layout.specs.Reading.{ask, item, time_field, Reader, read_row, read_dod, new_time};
-ghost use Rattle.decode.specs.Parts.{place, Holds, comes_to, then_dod, InWidth, then_time};
+ghost use Rattle.decode.specs.Parts.{place, Holds, comes_to, then_dod, InWidth, then_found, then_time};
 
 use super::field::{Peeked, get};
 use layout::row_at;
@@ -101,11 +101,11 @@ fn extend(raw: u64, n: u32) -> u64
     raw.wrapping_sub(all)
 }
 
-// The new time behind a dod, and the delta that leads to it: 10, or 11 where already the delta passes 2^64 - 1; then the delta by a sum that wraps as in the Rust and is by now
-// the true one; then 11 for the time.
-pub(super) fn new_time(time: u64, delta: u64, raw: u64, n: u32) -> Result<(u64, u64), Refusal>
+// The delta behind a dod: 10, or 11 where already the delta passes 2^64 - 1, and so its time; then the delta by a sum that wraps as in the Rust and is by
+// now the true one.
+fn new_delta(delta: u64, raw: u64, n: u32) -> Result<u64, Refusal>
     requires { (1 ≤ n) × (n ≤ 32) × (raw < 2 ^ n) }
-    ensures { (q : ℕ) (s : List Bool) (f : ℕ → ℕ → Reader) → then_time q s result f ≡ comes_to (new_time time (pos delta +ℤ signed n raw) f) q s }
+    ensures { (t q : ℕ) (s : List Bool) (f : ℕ → ℕ → Reader) → then_found result (λ d. comes_to (new_time t (pos d) f) q s) ≡ comes_to (new_time t (pos delta +ℤ signed n raw) f) q s }
 {
     let dod = extend(raw, n);
     let half: u64 = 1u64 << (n - 1);
@@ -119,7 +119,15 @@ pub(super) fn new_time(time: u64, delta: u64, raw: u64, n: u32) -> Result<(u64, 
             return Err(Refusal::ReadTimePasses);
         }
     }
-    let next = delta.wrapping_add(dod);
+    Ok(delta.wrapping_add(dod))
+}
+
+// The new time behind a dod, and the delta that leads to it: 10, then 11.
+pub(super) fn new_time(time: u64, delta: u64, raw: u64, n: u32) -> Result<(u64, u64), Refusal>
+    requires { (1 ≤ n) × (n ≤ 32) × (raw < 2 ^ n) }
+    ensures { (q : ℕ) (s : List Bool) (f : ℕ → ℕ → Reader) → then_time q s result f ≡ comes_to (new_time time (pos delta +ℤ signed n raw) f) q s }
+{
+    let next = new_delta(delta, raw, n)?;
     if u64::MAX - time < next {
         return Err(Refusal::ReadTimePasses);
     }

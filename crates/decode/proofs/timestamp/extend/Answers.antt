@@ -6,4 +6,4 @@ pub returns-then-raw-half : goal.returns-then-raw-half
 returns-then-raw-half c = extend_above _ _ (search rules) (search rules) (search rules) (omega arith)
 
 pub returns : goal.returns
-returns c = extend_below _ _ (search rules) (search rules) (search rules) _ (search rules) (omega arith) c.wrapping_sub.ensures.value
+returns c = extend_below _ _ (search rules) (search rules) (search rules) _ (search rules) (omega arith) (omega arith)

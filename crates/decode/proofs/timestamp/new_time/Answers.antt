@@ -1,44 +1,17 @@
-use Rattle.stream.proofs.Taking.{one_shl}
-use Rattle.std.proofs.Common.{◌≡◌, pos, ◌+ℤ◌, arith, rules}
-use Rattle.layout.specs.Rows.{signed}
+use Rattle.std.proofs.Common.{pos, refl, ◌∙◌, arith}
+use Rattle.std.proofs.lemmas.Result.{err_from_is_err_and}
 use Rattle.decode.specs.Parts.{then_found}
-use Rattle.decode.proofs.Times.{sum_falls, sum_above, wraps_below, wraps_above, time_falls, time_passes, time_got}
+use Rattle.decode.proofs.Times.{time_passes, time_got}
 use Rattle.decode.proofs.timestamp.new_time.Goals as goal
-use Rattle.decode.proofs.timestamp.new_time.Goals.{then-half-raw+else-delta-all, else-half-raw+else-delta-raw}
 
-pub overflow_sub-all : goal.overflow_sub-all
-overflow_sub-all c = omega (arith, one_shl c.args.n 64 (omega arith))
-
-pub returns-then-delta-all : goal.returns-then-delta-all
+pub returns-in_err-next : goal.returns-in_err-next
 unfolding then_found
-returns-then-delta-all c q s f =
-    let a = c.args in
-    time_falls a.time q s f _ (sum_falls a.n a.raw (search rules) (search rules) (search rules) a.delta (omega arith) (omega arith))
-
-pub returns-then-delta-raw : goal.returns-then-delta-raw
-unfolding then_found
-returns-then-delta-raw c q s f =
-    let a = c.args in
-    time_passes a.time q s f _ _ (sum_above a.n a.raw (search rules) (search rules) (search rules) a.delta (omega arith)) (omega arith)
+returns-in_err-next c q s f = let p = err_from_is_err_and c.from_residual.result c.from_residual.ensures.1 in rw (p.1, p.2) (c.in_err-next.ensures _ q s f)
 
 pub returns-then-time-next : goal.returns-then-time-next
 unfolding then_found
-returns-then-time-next c q s f =
-    -- behind both checks the wrapping sum is the true one
-    let sum : pos c.args.delta +ℤ signed c.args.n c.args.raw ≡ pos c.wrapping_add-next.result =
-    elim c.if-half-raw.branch [
-      | then-half-raw+else-delta-all w ↦ wraps_below _ _ (search rules) (search rules) (search rules) _ _ _ (search rules) c.extend-dod.ensures c.wrapping_add-next.ensures.value (omega arith) (omega arith)
-      | else-half-raw+else-delta-raw w ↦ wraps_above _ _ (search rules) (search rules) (search rules) _ _ _ (search rules) c.extend-dod.ensures c.wrapping_add-next.ensures.value (omega arith) (omega arith)
-    ] in
-    time_passes c.args.time q s f _ _ sum (omega arith)
+returns-then-time-next c q s f = time_passes c.args.time q s f (pos _) _ refl (omega arith) ∙ c.in_ok-next.ensures _ q s f
 
 pub returns : goal.returns
 unfolding then_found
-returns c q s f =
-    -- behind both checks the wrapping sum is the true one
-    let sum : pos c.args.delta +ℤ signed c.args.n c.args.raw ≡ pos c.wrapping_add-next.result =
-    elim c.if-half-raw.branch [
-      | then-half-raw+else-delta-all w ↦ wraps_below _ _ (search rules) (search rules) (search rules) _ _ _ (search rules) c.extend-dod.ensures c.wrapping_add-next.ensures.value (omega arith) (omega arith)
-      | else-half-raw+else-delta-raw w ↦ wraps_above _ _ (search rules) (search rules) (search rules) _ _ _ (search rules) c.extend-dod.ensures c.wrapping_add-next.ensures.value (omega arith) (omega arith)
-    ] in
-    time_got _ q s f _ _ sum (omega arith)
+returns c q s f = time_got c.args.time q s f (pos _) _ refl (omega arith) ∙ c.in_ok-next.ensures _ q s f
