@@ -4,6 +4,10 @@ use Rattle.encode.specs.Parts.{word_of, words}
 use Rattle.encode.proofs.Values.{open_words}
 use Rattle.encode.proofs.code.open_window.Goals as goal
 
+-- the check finds this alone; it stands here so that 64 digits written as 64 are refused at it
+pub with-head-requires-clause-low_bound : goal.with-head-requires-clause-low_bound
+with-head-requires-clause-low_bound c = omega (arith, c.digits_of-digits.ensures.0)
+
 pub returns : goal.returns
 unfolding words
 returns c =
