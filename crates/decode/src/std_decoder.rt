@@ -14,7 +14,8 @@ use stream::{BitPos, BufferedReader, ByteCount, LIMIT, Refusal};
 
 pub mod unpack;
 
-// What a step answers: a point with the place behind it, the end with the place behind the marker, or a refusal.
+// What a step answers: a point with the place behind it, the end with the place behind the marker, or a refusal. Document 01 names this form: an enum that
+// holds a point, an end or a refusal.
 #[derive(Clone, Copy)]
 pub enum Step {
     Point(Stored, BitPos),

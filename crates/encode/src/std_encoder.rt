@@ -118,7 +118,8 @@ fn write_point(e: StdEncoder, buf: &mut [u8], p: Stored, k: PointCode) -> Encode
     }
 }
 
-// A point offered to a state that fits the buffer, as the state after it does.
+// A point offered to a state that fits the buffer, as the state after it does. That fact, here and in pack.rt, is one about a state and a buffer, which
+// document 01 lends to each call; so no type holds both.
 pub(super) fn offer(e: StdEncoder, buf: &mut [u8], p: Stored) -> Encoded<()>
     requires { 0 ≡ standing 6 (view e) (length buf.old) }
     ensures { (told_encoded result buf.new ≡ encode_of 6 (view e) (length buf.old) (bits buf.old) (point_of p)) × (0 ≡ standing 6 (view result.encoder) (length buf.old)) }

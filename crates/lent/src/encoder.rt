@@ -30,7 +30,7 @@ pub fn close(encoder: &mut StdEncoder, buf: &mut [u8]) -> Result<(BitPos, ByteCo
     c.answer
 }
 
-// ---- above the shape: plain parameters
+// ---- above the shape: plain parameters. One function over all of these would take the call as a closure, and its clause would say less.
 
 // Lends the encoder to `encode`, and hands it back with the answer.
 pub fn encode_lent(encoder: StdEncoder, buf: &mut [u8], point: Stored) -> Encoded<()>

@@ -1,4 +1,5 @@
-// The one bit writer. It keeps a position alone; the buffer is lent to each call.
+// The one bit writer. It keeps a position alone; the buffer is lent to each call. It and the reader are two types, as document 01 takes them over from the
+// Rust by their names.
 
 ghost use Rattle.std.specs.Prelude.{◌≡◌};
 ghost use Rattle.stream.specs.Calls.{bit_number, told_write, write_of};

@@ -70,6 +70,7 @@ fn get_bytes(buf: &[u8], at: usize, n: usize) -> u64
     let mut left = n;
     let mut p = at;
     let mut v: u64 = 0;
+    // each turn takes what its byte has, from one bit to eight: no iterator of std goes by such steps
     while 0 < left {
         let c = in_byte(p, left);
         v = more(buf, p, c, v);

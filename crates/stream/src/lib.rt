@@ -29,7 +29,7 @@ pub enum Bit {
 }
 
 impl Bit {
-    // The bit as a number: `Zero` is 0 and `One` is 1.
+    // The bit as a number: `Zero` is 0 and `One` is 1. The Rust's name and form, which document 01 takes over with `Bit`; so no `From`.
     pub fn to_u64(self) -> u64
         ensures { result ≡ bit_number self }
     {

@@ -50,6 +50,7 @@ pub(super) fn put_field(buf: &mut [u8], at: usize, value: u64, n: usize)
 {
     let mut left = n;
     let mut p = at;
+    // as in get.rt, by steps that no iterator of std has
     while 0 < left {
         let c = put_some(buf, p, value, left);
         left -= c;

@@ -25,7 +25,7 @@ pub enum Refusal {
 }
 
 impl Refusal {
-    // The number that the table gives it.
+    // The number that the table gives it. No discriminant: an edit that gives one refusal the number of another (stream/other_digits) has to compile.
     pub fn number(self) -> u8
         ensures { result ≡ number_of self }
     {

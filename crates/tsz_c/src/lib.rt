@@ -1,4 +1,5 @@
-// The static library for programs in other languages; the header is include/tsz.h. Each function is the one of that name in crate tsz.
+// The static library for programs in other languages; the header is include/tsz.h. Each function is the one of that name in crate tsz, since the C
+// interface needs it once more with C's calling convention.
 
 #![tactic(auto)]
 

@@ -150,7 +150,8 @@ fn unpack_ended(
     }
 }
 
-// Puts points into the first entries of two lists until the shorter is full or an answer is no point; the other entries stay.
+// Puts points into the first entries of two lists until the shorter is full or an answer is no point; the other entries stay. Two lists, and not one of
+// points: the C interface hands over two.
 pub fn unpack_some(
     decoder: StdDecoder,
     buf: &[u8],
