@@ -11,7 +11,8 @@ ghost use Rattle.encode.specs.Parts.{word_of, Short, Holds};
 use super::dod::{field_of, row_of};
 use layout::{Row, Window};
 
-// The len low bits of a number, the highest first. No higher bit is set.
+// The len low bits of a number, the highest first. No higher bit is set: `Short` says so in the contracts. As a ghost field it was tried, and that two codes
+// with the same numbers are one (`code_told`) did not close.
 #[derive(Clone, Copy, Debug, PartialEq, Eq)]
 pub struct Code {
     pub bits: u64,
@@ -64,7 +65,8 @@ pub(super) fn time_code(d: i64) -> Code
     row_code(row_of(d), d)
 }
 
-// The window's digits of a xor that has the window's zeros.
+// The window's digits of a xor that has the window's zeros. That it has them, and that they leave a digit, is asked here and of the two functions below; a
+// type for a xor in its window would be longer than these clauses.
 fn digits_of(x: u64, window: Window) -> Code
     requires room { window.lead + window.trail < 64 }
     requires x_value { reuses 6 window x ≡ true }
