@@ -134,7 +134,7 @@ fn pack_points(encoder: StdEncoder, buf: &mut [u8], times: &[u64], values: &[u64
 {
     let n = points_in(times, values);
     let mut waiting = Waiting::none(encoder);
-    // by place, which is also how many were accepted: `times.iter().zip(values).enumerate()` was tried and proved, and took 5 to 28 instructions more
+    // by place, which is also how many were accepted: `times.iter().zip(values).enumerate()` was tried and proved, and took 5 to 36 instructions more
     // a point, so that packing was slower than with the loop that counted by hand
     for i in 0..n {
         let p = Stored {
