@@ -64,18 +64,18 @@ Then (Ok a) P = P a
 
 unfoldable pub dod_then : List Bool → (ℤ → Reader) → Dod → Reached
 dod_then s f (dod.End r) = end_at r.at.0
-dod_then s f (dod.Got x n r) = comes_to (f (signed n x)) (place r) s
+dod_then s f (dod.Got d r) = comes_to (f (signed d.width d.raw)) (place r) s
 
 abbrev pub then_dod : List Bool → Result Dod Refusal → (ℤ → Reader) → Reached
 then_dod s d f = then_found d (dod_then s f)
 
--- a dod's field is a number of its bits, of which there are 1 to 32; what is known of the bits behind it is so
-unfoldable pub WidthOf : List Bool → Dod → Type 0
-WidthOf s (dod.End r) = Unit {0}
-WidthOf s (dod.Got x n r) = (1 ≤ n) × (n ≤ 32) × (x < 2 ^ n) × Holds s r
+-- what is known of the bits behind a dod's field is so
+unfoldable pub FieldOf : List Bool → Dod → Type 0
+FieldOf s (dod.End r) = Unit {0}
+FieldOf s (dod.Got d r) = Holds s r
 
-abbrev pub InWidth : List Bool → Result Dod Refusal → Type 0
-InWidth s d = Then d (WidthOf s)
+abbrev pub InField : List Bool → Result Dod Refusal → Type 0
+InField s d = Then d (FieldOf s)
 
 abbrev pub then_time : ℕ → List Bool → Result (ℕ × ℕ) Refusal → (ℕ → ℕ → Reader) → Reached
 then_time q s t f = then_found t (λ x. comes_to (f x.0 x.1) q s)

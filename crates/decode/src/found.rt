@@ -1,6 +1,6 @@
 // What stands next in a stream: a point, the end, or why there is none.
 
-ghost use Rattle.std.specs.Prelude.{◌≡◌, ◌+◌, ◌^◌, ◌<◌, ◌≤◌, length};
+ghost use Rattle.std.specs.Prelude.{◌≡◌, ◌+◌, ◌<◌, ◌≤◌, length};
 ghost use Rattle.stream.specs.Bits.{bits};
 ghost use Rattle.stream.specs.Calls.{limit};
 ghost use Rattle.layout.specs.Rows.{signed};
@@ -10,6 +10,7 @@ ghost use Rattle.layout.specs.Answers.{first_step};
 ghost use Rattle.decode.specs.Parts.{place, Holds, unplaced, comes_to, found_of, Carried};
 
 use super::field::{Peeked, peek, read};
+use super::raw_dod::RawDod;
 use super::timestamp::{Dod, new_time, read_dod};
 use super::value::read_next_value;
 use layout::{State, Window};
@@ -128,14 +129,13 @@ fn read_later_value(
 }
 
 // Its time, from the dod's field, then its value.
-fn read_later_time(r: Peeked, buf: &[u8], k: State, raw: u64, n: u32) -> Result<Found, Refusal>
-    requires le_n { (1 ≤ n) × (n ≤ 32) × (raw < 2 ^ n) }
+fn read_later_time(r: Peeked, buf: &[u8], k: State, field: RawDod) -> Result<Found, Refusal>
     requires trail_bound { k.window.lead + k.window.trail < 64 }
     requires buf_len_bound { length buf.now ≤ limit }
     requires holds { Holds (bits buf.now) r }
-    ensures { (found_of result ≡ comes_to (after_dod 6 k (signed n raw)) (place r) (bits buf.now)) × Carried (bits buf.now) result }
+    ensures { (found_of result ≡ comes_to (after_dod 6 k (signed field.width field.raw)) (place r) (bits buf.now)) × Carried (bits buf.now) result }
 {
-    let (time, delta) = new_time(k.time, k.delta, raw, n)?;
+    let (time, delta) = new_time(k.time, k.delta, field)?;
     read_later_value(r, buf, k, time, delta)
 }
 
@@ -160,10 +160,6 @@ pub(super) fn read_later(r: Peeked, buf: &[u8], k: State) -> Result<Found, Refus
     let dod = read_dod(refilled(r, buf), buf)?;
     match dod {
         Dod::End(rest) => Ok(Found::End(rest)),
-        Dod::Got {
-            raw,
-            width,
-            r: rest,
-        } => read_later_time(rest, buf, k, raw, width),
+        Dod::Got(field, rest) => read_later_time(rest, buf, k, field),
     }
 }

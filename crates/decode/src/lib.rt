@@ -4,6 +4,7 @@
 
 mod field;
 mod found;
+mod raw_dod;
 pub mod std_decoder;
 mod timestamp;
 mod value;

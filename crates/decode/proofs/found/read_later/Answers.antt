@@ -1,7 +1,7 @@
 use Rattle.std.proofs.Common.{◌∙◌, rules}
 use Rattle.std.proofs.lemmas.Result.{err_from_is_err_and}
 use Rattle.layout.specs.Reading.{read_later}
-use Rattle.decode.specs.Parts.{then_found, Then, dod_then, WidthOf, step_of, CarriedOn}
+use Rattle.decode.specs.Parts.{then_found, Then, dod_then, FieldOf, step_of, CarriedOn}
 use Rattle.decode.proofs.Steps.{at_place}
 use Rattle.decode.proofs.found.read_later.Goals as goal
 
@@ -9,8 +9,8 @@ pub read_dod-requires : goal.read_dod-requires
 read_dod-requires c = record { buf_len_bound = search rules; holds = c.refilled.ensures.1 }
 
 pub read_later_time-requires : goal.read_later_time-requires
-unfolding Then WidthOf
-read_later_time-requires c = let k = rw c.in-Got.is at c.in_ok-dod.ensures.1 in record { le_n = (k.0, k.1, k.2); trail_bound = search rules; buf_len_bound = search rules; holds = k.3 }
+unfolding Then FieldOf
+read_later_time-requires c = let k = rw c.in-Got.is at c.in_ok-dod.ensures.1 in record { trail_bound = search rules; buf_len_bound = search rules; holds = k }
 
 pub returns-in_err-dod : goal.returns-in_err-dod
 unfolding then_found Then read_later

@@ -1,18 +1,18 @@
 use Rattle.std.proofs.lemmas.Result.{err_from_is_err_and}
-use Rattle.std.proofs.Common.{◌∙◌, arith, lit<, lit≤, rules}
+use Rattle.std.proofs.Common.{◌∙◌, arith, rules}
 use Rattle.layout.specs.Reading.{read_dod}
 use Rattle.layout.specs.Rows.{signed}
-use Rattle.decode.specs.Parts.{then_found, Then, dod_then, WidthOf}
+use Rattle.decode.specs.Parts.{then_found, Then, dod_then, FieldOf}
 use Rattle.decode.proofs.Fields.{by_short, by_zero, by_other, whole_holds}
 use Rattle.decode.proofs.timestamp.read_dod.Goals as goal
 
 pub returns-in_err-bit : goal.returns-in_err-bit
-unfolding then_found Then dod_then WidthOf read_dod
+unfolding then_found Then dod_then FieldOf read_dod
 returns-in_err-bit c = let p = err_from_is_err_and c.from_residual.result c.from_residual.ensures.1 in rw (p.1, p.2) (λ f. by_short _ _ _ _ _ _ c.in_err-bit.ensures, tt)
 
 pub returns-then-bit-eq0 : goal.returns-then-bit-eq0
-unfolding then_found Then dod_then WidthOf read_dod signed
-returns-then-bit-eq0 c = (λ f. by_zero _ _ _ _ _ _ _ c.in_ok-bit.ensures (omega arith), (lit≤ tt, lit≤ tt, lit< tt, whole_holds _ _ _ _ c.in_ok-bit.ensures))
+unfolding then_found Then dod_then FieldOf read_dod signed
+returns-then-bit-eq0 c = (λ f. by_zero _ _ _ _ _ _ _ c.in_ok-bit.ensures (omega arith), whole_holds _ _ _ _ c.in_ok-bit.ensures)
 
 pub read_row-requires : goal.read_row-requires
 read_row-requires c = record { buf_len_bound = search rules; holds = whole_holds _ _ _ _ c.in_ok-bit.ensures }
