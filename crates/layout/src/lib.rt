@@ -78,7 +78,7 @@ impl Window {
     pub fn has_no_digit(self) -> bool
         ensures { result ≡ no_digit 6 self }
     {
-        63 < (self.lead as u64) + (self.trail as u64)
+        63 < u64::from(self.lead) + u64::from(self.trail)
     }
 
     // Whether no encoder has it: a window without a digit, but for the 64 and 64 with which it begins.

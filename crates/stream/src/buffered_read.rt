@@ -114,7 +114,7 @@ impl BufferedReader {
     }
 }
 
-// The bit that a number of one digit is.
+// The bit that a number of one digit is. No From, and no TryFrom: other numbers are no bits, and no caller has one.
 fn bit_of(v: u64) -> Bit
     requires { v < 2 }
     ensures { bit_number result ≡ v }
@@ -122,7 +122,7 @@ fn bit_of(v: u64) -> Bit
     if v == 0 { Bit::Zero } else { Bit::One }
 }
 
-// The byte that a number of eight digits is.
+// The byte that a number of eight digits is; the same.
 fn byte_of(v: u64) -> u8
     requires { v < 256 }
     ensures { result ≡ v }

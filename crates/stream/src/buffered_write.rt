@@ -50,7 +50,7 @@ impl BufferedWriter {
     pub fn write_byte(self, buf: &mut [u8], byte: u8) -> Written
         ensures { told_write result buf.new ≡ write_of buf.old self.at.0 byte 8 }
     {
-        self.write_bits(buf, byte as u64, 8)
+        self.write_bits(buf, u64::from(byte), 8)
     }
 
     // Writes the num low bits of value, the highest of them first; more than 64 are 64.

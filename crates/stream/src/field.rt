@@ -9,11 +9,13 @@ ghost use Rattle.stream.specs.Fits.{fault_of};
 use super::LIMIT;
 use super::refusal::Refusal;
 
-// The bits that a count asks for: a number has no more than 64.
+// The bits that a count asks for: a number has no more than 64. That bound is a clause of `fit_of` and of what gets and puts a field, and no type of its
+// own: each of them counts with the number, and would take it out of the type first.
 pub(super) fn width_of(num: u32) -> usize
     ensures { result ≡ width num }
 {
-    if num < 64 { num as usize } else { 64 }
+    // `as`: there is no From of a u32 for a usize
+    num.min(64) as usize
 }
 
 // Whether n bits at bit p fit in len bytes; short is the refusal where they run past the end.
@@ -38,8 +40,7 @@ pub(super) fn in_byte(p: usize, left: usize) -> usize
     requires { 0 < left }
     ensures { result ≡ min left (8 - p % 8) }
 {
-    let space = 8 - p % 8;
-    if left < space { left } else { space }
+    left.min(8 - p % 8)
 }
 
 // The c digits of value that stand above its low ones.

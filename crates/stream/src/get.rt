@@ -10,7 +10,7 @@ use super::field::{digits, in_byte};
 fn wide(x: u8) -> u64
     ensures { (result ≡ x) × (result < 256) }
 {
-    x as u64
+    u64::from(x)
 }
 
 // Byte i.
@@ -60,7 +60,8 @@ fn more(buf: &[u8], p: usize, c: usize, v: u64) -> u64
     (v << c) + digits(wide(buf[i]), 8 - p % 8 - c, c)
 }
 
-// The n bits from bit at on, a byte's bits at a time.
+// The n bits from bit at on, a byte's bits at a time. That the bits lie in the buffer is a clause of this, of `get_field` and of `put_field`: a type that
+// holds it would borrow the buffer, to read in two of them and to write in the third, so it would be two types for three functions.
 fn get_bytes(buf: &[u8], at: usize, n: usize) -> u64
     requires buf_len_bound { length buf.now ≤ limit }
     requires n_bound { n ≤ 64 }

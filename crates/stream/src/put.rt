@@ -13,7 +13,7 @@ fn placed(old: u8, k: usize, c: usize, chunk: u64) -> u8
     ensures { bits_of 8 result ≡ take k (bits_of 8 old) ++ (bits_of c chunk ++ replicate (8 - (k + c)) false) }
 {
     let low = 8 - k;
-    let kept = ((old as u64) >> low) << low;
+    let kept = (u64::from(old) >> low) << low;
     (kept | (chunk << (low - c))) as u8
 }
 
