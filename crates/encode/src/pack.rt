@@ -103,7 +103,8 @@ impl Waiting {
     // A point offered behind the zeros that wait.
     fn offer(self, buf: &mut [u8], p: Stored) -> Encoded<()>
         requires { 0 ≡ standing 6 (view self.encoder) (length buf.old) }
-        ensures { (told_encoded result buf.new ≡ encode_of 6 (ahead self.time self.zeros (view self.encoder)) (length buf.old) (zeroed (bits buf.old) self.encoder.w.at.0 self.zeros) (point_of p)) × (0 ≡ standing 6 (view result.encoder) (length buf.old)) }
+        ensures { (told_encoded result buf.new ≡ encode_of 6 (ahead self.time self.zeros (view self.encoder)) (length buf.old)
+            (zeroed (bits buf.old) self.encoder.w.at.0 self.zeros) (point_of p)) × (0 ≡ standing 6 (view result.encoder) (length buf.old)) }
     {
         let behind = self.catch_up(buf);
         offer(behind, buf, p)
@@ -135,7 +136,7 @@ fn pack_points(encoder: StdEncoder, buf: &mut [u8], times: &[u64], values: &[u64
     let n = points_in(times, values);
     let mut waiting = Waiting::none(encoder);
     // by place, which is also how many were accepted: `times.iter().zip(values).enumerate()` was tried and proved, and took 5 to 36 instructions more
-    // a point, so that packing was slower than with the loop that counted by hand
+    // a point on the series of bench/. docs/SPEED.md sets no limit; the bar is the loop that counted by hand, and packing is to get no slower than it
     for i in 0..n {
         let p = Stored {
             time: times[i],
