@@ -44,8 +44,10 @@ code_told k j e =
 by_view : Tells StdEncoder Enc view
 by_view s t e =
     λ i. record {
-      kept = record { time = (e i).time; delta = (e i).delta; value = (e i).value; window = (e i).window };
-      first = (e i).first;
+      last = record {
+        kept = record { time = (e i).time; delta = (e i).delta; value = (e i).value; window = (e i).window };
+        first = (e i).first;
+      };
       closed = (e i).closed;
       len = record { 0 = (e i).len };
       w = record { at = record { 0 = (e i).at } };

@@ -37,7 +37,7 @@ abbrev pub progress : Enc → Progress
 progress e = progress_by e.first (kept e)
 
 abbrev pub view : StdEncoder → Enc
-view e = enc e.len.0 e.w.at.0 e.kept e.first e.closed
+view e = enc e.len.0 e.w.at.0 e.last.kept e.last.first e.closed
 
 abbrev pub point_of : Stored → Point
 point_of p = record { time = p.time; value = p.bits }

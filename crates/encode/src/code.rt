@@ -78,6 +78,9 @@ fn digits_of(x: u64, window: Window) -> Code
     }
 }
 
+// That a time's code has at most 36 bits is a clause of the three functions that take one: no other code has that bound, and a type around `Code` for it
+// would be taken apart at each use.
+
 // Behind a time: bits 10 and the window's digits.
 fn reuse(time: Code, x: u64, window: Window) -> PointCode
     requires len_bound { (time.len ≤ 36) × Short time }

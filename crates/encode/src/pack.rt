@@ -38,14 +38,14 @@ impl Waiting {
     // None wait. No more may than one write takes, and than leave room for the marker.
     fn none(e: StdEncoder) -> Waiting
         requires { (e.len.0 ≤ limit) × (e.w.at.0 + 36 ≤ 8 * e.len.0) }
-        ensures { (result.encoder ≡ e) × (result.time ≡ e.kept.time) × (result.zeros ≡ 0) }
+        ensures { (result.encoder ≡ e) × (result.time ≡ e.last.kept.time) × (result.zeros ≡ 0) }
     {
         let all = 8 * e.len.get();
         let at = bits_before(e.w);
         let left = all - at - StdEncoder::END_MARKER_LEN as usize;
         Waiting {
             encoder: e,
-            time: e.kept.time,
+            time: e.last.kept.time,
             zeros: 0,
             // `as`: there is no From of a usize, and 62 fits
             most: left.min(62) as u32,
@@ -56,20 +56,20 @@ impl Waiting {
     fn takes(self, p: Stored) -> bool
         ensures { result ≡ true → (self.zeros + 2 ≤ self.most) × Repeats (view self.encoder) self.time (point_of p) }
     {
-        let e = self.encoder;
+        let last = self.encoder.last;
         if self.most < self.zeros + 2 {
             return false;
         }
-        if e.first {
+        if last.first {
             return false;
         }
-        if p.bits != e.kept.value {
+        if p.bits != last.kept.value {
             return false;
         }
         if p.time < self.time {
             return false;
         }
-        p.time - self.time == e.kept.delta
+        p.time - self.time == last.kept.delta
     }
 
     // The two zeros of a point that it takes wait too.
@@ -95,7 +95,7 @@ impl Waiting {
             len: self.zeros,
         };
         let mut encoder = self.encoder;
-        encoder.kept.time = self.time;
+        encoder.last.kept.time = self.time;
         encoder.w = put(encoder.w, buf, code);
         encoder
     }
@@ -103,7 +103,8 @@ impl Waiting {
     // A point offered behind the zeros that wait.
     fn offer(self, buf: &mut [u8], p: Stored) -> Encoded<()>
         requires { 0 ≡ standing 6 (view self.encoder) (length buf.old) }
-        ensures { (told_encoded result buf.new ≡ encode_of 6 (ahead self.time self.zeros (view self.encoder)) (length buf.old) (zeroed (bits buf.old) self.encoder.w.at.0 self.zeros) (point_of p)) × (0 ≡ standing 6 (view result.encoder) (length buf.old)) }
+        ensures { (told_encoded result buf.new ≡ encode_of 6 (ahead self.time self.zeros (view self.encoder)) (length buf.old)
+            (zeroed (bits buf.old) self.encoder.w.at.0 self.zeros) (point_of p)) × (0 ≡ standing 6 (view result.encoder) (length buf.old)) }
     {
         let behind = self.catch_up(buf);
         offer(behind, buf, p)
@@ -135,7 +136,7 @@ fn pack_points(encoder: StdEncoder, buf: &mut [u8], times: &[u64], values: &[u64
     let n = points_in(times, values);
     let mut waiting = Waiting::none(encoder);
     // by place, which is also how many were accepted: `times.iter().zip(values).enumerate()` was tried and proved, and took 5 to 36 instructions more
-    // a point, so that packing was slower than with the loop that counted by hand
+    // a point on the series of bench/. docs/SPEED.md sets no limit; the bar is the loop that counted by hand, and packing is to get no slower than it
     for i in 0..n {
         let p = Stored {
             time: times[i],

@@ -17,11 +17,10 @@ use layout::{State, Window};
 use point::{DataPoint, Stored};
 use stream::{BitPos, BufferedWriter, ByteCount, LIMIT, Refusal};
 
-// As in the Rust, with the buffer's length at opening, and whether it is closed.
+// As in the Rust, with what is kept of the last point in one struct, the buffer's length at opening, and whether it is closed.
 #[derive(Clone, Copy)]
 pub struct StdEncoder {
-    pub(super) kept: State,
-    pub(super) first: bool,
+    pub(super) last: Last,
     // no enum of an open and a closed one: document 01 gives both the same fields, and closing returns the others as they were
     closed: bool,
     pub(super) len: ByteCount,
@@ -57,7 +56,7 @@ fn no_fit(e: StdEncoder, n: usize) -> bool
     if left < StdEncoder::END_MARKER_LEN as usize {
         return true;
     }
-    e.kept.window.is_bad()
+    e.last.kept.window.is_bad()
 }
 
 // 12, then 13.
@@ -73,8 +72,8 @@ pub(super) fn standing_of(e: StdEncoder, n: usize) -> Result<(), Refusal>
     Ok(())
 }
 
-// ---- a point. That a state stands is a clause of each function from here on, and no type of its own: it is about the encoder and the buffer that a
-// call is lent, together.
+// ---- a point. That a state stands is a clause of each function from here on, and of those in pack.rt: a type that holds an encoder and the buffer would
+// be taken apart again for what a call returns, a state and lent bytes, which document 01 keeps apart; so the clause is plainer.
 
 // The encoder that was given, and why a call is refused.
 pub(super) fn refuse<T>(e: StdEncoder, why: Refusal) -> Encoded<T>
@@ -101,14 +100,13 @@ fn write_point(e: StdEncoder, buf: &mut [u8], p: Stored, k: PointCode) -> Encode
     }
     let kept = State {
         time: p.time,
-        delta: p.time - e.kept.time,
+        delta: p.time - e.last.kept.time,
         value: p.bits,
         window: k.window,
     };
     let behind = put_point(e.w, buf, k);
     let encoder = StdEncoder {
-        kept,
-        first: false,
+        last: Last { kept, first: false },
         w: behind,
         ..e
     };
@@ -118,8 +116,7 @@ fn write_point(e: StdEncoder, buf: &mut [u8], p: Stored, k: PointCode) -> Encode
     }
 }
 
-// A point offered to a state that fits the buffer, as the state after it does. That fact, here and in pack.rt, is one about a state and a buffer, which
-// document 01 lends to each call; so no type holds both.
+// A point offered to a state that fits the buffer, as the state after it does.
 pub(super) fn offer(e: StdEncoder, buf: &mut [u8], p: Stored) -> Encoded<()>
     requires { 0 ≡ standing 6 (view e) (length buf.old) }
     ensures { (told_encoded result buf.new ≡ encode_of 6 (view e) (length buf.old) (bits buf.old) (point_of p)) × (0 ≡ standing 6 (view result.encoder) (length buf.old)) }
@@ -144,8 +141,7 @@ fn never_opened() -> StdEncoder
         window,
     };
     StdEncoder {
-        kept,
-        first: false,
+        last: Last { kept, first: false },
         closed: true,
         len: ByteCount::new(0),
         w: BufferedWriter::new(),
@@ -212,8 +208,7 @@ impl StdEncoder {
             window,
         };
         let encoder = StdEncoder {
-            kept,
-            first: true,
+            last: Last { kept, first: true },
             closed: false,
             len: ByteCount::new(n),
             w,
@@ -228,10 +223,7 @@ impl StdEncoder {
     pub fn last(self) -> Last
         ensures { result ≡ last_of (view self) }
     {
-        Last {
-            kept: self.kept,
-            first: self.first,
-        }
+        self.last
     }
 
     // The code of a point behind what the encoder has written, whether or not there is room for it: 2, then 3 or 4.
