@@ -1,8 +1,6 @@
 // A point's time: the Rust's `read_next_timestamp`, in two parts. The dod's field is read, then the new time is checked and made.
 
-ghost use Rattle.std.specs.Prelude.{◌≡◌, ℕ, ◌≤◌, Bool, List, [], length, ℤ, pos, ◌+ℤ◌};
-ghost use Rattle.stream.specs.Bits.{bits};
-ghost use Rattle.stream.specs.Calls.{limit};
+ghost use Rattle.std.specs.Prelude.{◌≡◌, ℕ, ◌≤◌, Bool, List, [], ℤ, pos, ◌+ℤ◌};
 ghost use Rattle.layout.specs.Rows.{row7, longer_rows, row32, signed};
 ghost use Rattle.layout.specs.Reading.{ask, item, time_field, Reader, read_row, read_dod, new_time};
 ghost use Rattle.decode.specs.Parts.{comes_to, from, then_dod, InField, then_found, then_time};
