@@ -9,7 +9,7 @@ use Rattle.decode.specs.declared.field.Peeked.{Peeked}
 use Rattle.std.specs.Prelude.{Ok, Err}
 use Rattle.stream.specs.declared.refusal.Refusal.{Refusal}
 use Rattle.stream.specs.Refusals.{number_of}
-use Rattle.decode.specs.Parts.{place, GotField, comes_to}
+use Rattle.decode.specs.Parts.{place, GotField, comes_to, from}
 use Rattle.decode.proofs.Fields.{by_short, by_zero, by_other}
 
 -- the field of a row that is not the last
@@ -28,12 +28,12 @@ last_row r e f p s = rw e
 -- ---- the rows from the i-th on
 
 -- they read from q on what all rows read from p on
-abbrev pub RowsLeft : List Bool → ℕ → ℕ → ℕ → Type 0
-RowsLeft s p i q = (f : ℤ → Reader) → comes_to (read_row (row_at i) (drop (i + 1) rows) f) q s ≡ comes_to (read_row row7 longer_rows f) p s
+abbrev pub RowsLeft : Peeked → ℕ → Peeked → Type 0
+RowsLeft p i q = (f : ℤ → Reader) → from (read_row (row_at i) (drop (i + 1) rows) f) q ≡ from (read_row row7 longer_rows f) p
 
-pub rows_first : (s : List Bool) (p : ℕ) → RowsLeft s p 0 p
+pub rows_first : (p : Peeked) → RowsLeft p 0 p
 unfolding row_at
-rows_first s p f = refl
+rows_first p f = refl
 
 -- a control bit: the row's own field, or the rows behind it
 abbrev row_step : ℕ → (ℤ → Reader) → Reader
@@ -45,22 +45,22 @@ row_step_lem : (i : ℕ) → i < 3 → (f : ℤ → Reader) → read_row (row_at
 unfolding read_row row_at
 row_step_lem i h f = rw (drop_at rows (i + 1) row32 (omega arith), add-one (i + 1))
 
-module _ (s : List Bool) (p i q : ℕ) (left : RowsLeft s p i q) (h : i < 3) where
-  from_here : (f : ℤ → Reader) → comes_to (row_step i f) q s ≡ comes_to (read_row row7 longer_rows f) p s
-  from_here f = ap (λ (z : Reader). comes_to z q s) (sym (row_step_lem i h f)) ∙ left f
+module _ (p : Peeked) (i : ℕ) (q : Peeked) (left : RowsLeft p i q) (h : i < 3) where
+  from_here : (f : ℤ → Reader) → from (row_step i f) q ≡ from (read_row row7 longer_rows f) p
+  from_here f = ap (λ (z : Reader). from z q) (sym (row_step_lem i h f)) ∙ left f
 
-  pub rows_short : (x : Refusal) → GotField s q 1 (Err x) → (f : ℤ → Reader) → wrong_at (number_of x) 0 ≡ comes_to (read_row row7 longer_rows f) p s
-  rows_short x k f = by_short _ 1 _ q s x k ∙ from_here f
+  pub rows_short : (x : Refusal) → GotField q.buf.now (place q) 1 (Err x) → (f : ℤ → Reader) → wrong_at (number_of x) 0 ≡ from (read_row row7 longer_rows f) p
+  rows_short x k f = by_short _ 1 _ (place q) q.buf.now x k ∙ from_here f
 
-  module _ (x : ℕ × Peeked) (k : GotField s q 1 (Ok x)) where
+  module _ (x : ℕ × Peeked) (k : GotField q.buf.now (place q) 1 (Ok x)) where
     pub rows_here : x.0 ≡ 0 → (w : Row) → w ≡ row_at i
-        → (f : ℤ → Reader) (o : Reached) → o ≡ comes_to (row_field w f) (place x.1) s → o ≡ comes_to (read_row row7 longer_rows f) p s
-    rows_here z w e f o h = (rw e at h) ∙ by_zero _ 1 (row_field (row_at i) f) _ q s x k z ∙ from_here f
+        → (f : ℤ → Reader) (o : Reached) → o ≡ from (row_field w f) x.1 → o ≡ from (read_row row7 longer_rows f) p
+    rows_here z w e f o h = (rw e at h) ∙ by_zero _ 1 (row_field (row_at i) f) _ (place q) q.buf.now x k z ∙ from_here f
 
-    pub rows_next : (x.0 ≡ 0 → ⊥) → RowsLeft s p (i + 1) (place x.1)
-    rows_next z f = by_other _ 1 (row_field (row_at i) f) _ q s x k z ∙ from_here f
+    pub rows_next : (x.0 ≡ 0 → ⊥) → RowsLeft p (i + 1) x.1
+    rows_next z f = by_other _ 1 (row_field (row_at i) f) _ (place q) q.buf.now x k z ∙ from_here f
 
-pub rows_last : (s : List Bool) (p i q : ℕ) → RowsLeft s p i q → i ≤ 3 → 3 ≤ i → (f : ℤ → Reader)
-    → comes_to (read_row row32 [] f) q s ≡ comes_to (read_row row7 longer_rows f) p s
+pub rows_last : (p : Peeked) (i : ℕ) (q : Peeked) → RowsLeft p i q → i ≤ 3 → 3 ≤ i → (f : ℤ → Reader)
+    → from (read_row row32 [] f) q ≡ from (read_row row7 longer_rows f) p
 unfolding row_at
-rows_last s p i q left h k f = let e : i ≡ 3 = omega arith in rw e at (left f)
+rows_last p i q left h k f = let e : i ≡ 3 = omega arith in rw e at (left f)

@@ -1,5 +1,5 @@
 -- What the bit reader's answer says of a field, and what a field says of a reader that begins with it.
-use Rattle.std.proofs.Common.{◌≡◌, ℕ, ◌+◌, ◌-◌, ◌*◌, ◌/◌, ◌%◌, ◌^◌, ◌<◌, ◌≤◌, Bool, cond, eqb, List, [], ◌∷◌, length, refl, ap, ◌∙◌, lt_of_not-le, arith, ne_eqb}
+use Rattle.std.proofs.Common.{◌≡◌, ℕ, ◌+◌, ◌-◌, ◌*◌, ◌/◌, ◌^◌, ◌<◌, ◌≤◌, Bool, cond, eqb, List, [], ◌∷◌, length, refl, ap, ◌∙◌, lt_of_not-le, arith, ne_eqb}
 use native.Mathlib.Decide.{dec_le}
 use Rattle.stream.specs.Bits.{value_of, bits, field}
 use Rattle.stream.specs.Calls.{limit, Told, given, refused, tell_bits, field_fault, read_of}
@@ -16,23 +16,21 @@ use Rattle.layout.specs.Reading.{done, ask, run, Label, point, ending, wrong, Re
 use Rattle.layout.specs.Answers.{point_at, end_at, wrong_at, reached}
 use Rattle.layout.proofs.Runs.{run_there, run_cut}
 use Rattle.decode.specs.declared.field.Peeked.{Peeked}
-use Rattle.decode.specs.Parts.{Known, place, Holds, GotField, unplaced, comes_to}
-use Rattle.decode.proofs.Peeks.{none_known, known_first, known_rest}
+use Rattle.decode.specs.Words.{Known}
+use Rattle.decode.specs.Parts.{place, GotField, unplaced, comes_to, from}
+use Rattle.decode.proofs.Peeks.{known_first}
 
 -- ---- the bit reader's answer
 
 module _ (l : List ℕ) (p n : ℕ) (few : n ≤ 64) (short : length l ≤ limit) where
   module _ (q : ℕ) (a : Result ℕ Refusal) (e : (tell_bits a, q) ≡ read_of l p n) where
-    pub got_whole : (v : ℕ) → a ≡ Ok v → (r : Peeked) → (place r ≡ q) × (r.have ≡ 0) × (r.word ≡ 0) → GotField (bits l) p n (Ok (v, r))
-    unfolding GotField
-    got_whole v f r b = elim (dec_le (p + n) (8 * length l)) [
+    whole : (v : ℕ) → a ≡ Ok v → (v ≡ value_of (field (bits l) p n)) × (q ≡ p + n) × (p + n ≤ length (bits l))
+    whole v f = elim (dec_le (p + n) (8 * length l)) [
       | yes h ↦
           let o = told_as l p n q a (Ok v) f e ∙ read_is l p n few short h in
           let t : given (v ∷ []) ≡ given (value_of (field (bits l) p n) ∷ []) = ap (λ (o : Told × ℕ). o.0) o in
           let x : v ≡ value_of (field (bits l) p n) = cc in
-          let y : place r ≡ p + n = b.0 ∙ ap (λ (o : Told × ℕ). o.1) o in
-          let z : p + n ≤ length (bits l) = rw (length_bits l) h in
-          (z, x, rw x (field_lt (bits l) p n), y, none_known (bits l) r b.1 b.2 (rw y z))
+          (x, ap (λ (o : Told × ℕ). o.1) o, rw (length_bits l) h)
       | no h ↦
           let o = told_as l p n q a (Ok v) f e ∙ read_none l p n few short (lt_of_not-le h) in
           let t : given (v ∷ []) ≡ refused (field_fault 7 (length l) p n) = ap (λ (o : Told × ℕ). o.0) o in
@@ -40,7 +38,14 @@ module _ (l : List ℕ) (p n : ℕ) (few : n ≤ 64) (short : length l ≤ limit
           absurd (omega arith)
     ]
 
-    pub got_short : (x : Refusal) → a ≡ Err x → GotField (bits l) p n (Err CutShort)
+    pub read_inside : (v : ℕ) → a ≡ Ok v → q ≤ length (bits l)
+    read_inside v f = let k = whole v f in rw k.1 k.2
+
+    pub got_whole : (v : ℕ) → a ≡ Ok v → (r : Peeked) → (place r ≡ q) × (r.buf.now ≡ l) → GotField l p n (Ok (v, r))
+    unfolding GotField
+    got_whole v f r b = let k = whole v f in (k.2, k.0, rw k.0 (field_lt (bits l) p n), b.0 ∙ k.1, b.1)
+
+    pub got_short : (x : Refusal) → a ≡ Err x → GotField l p n (Err CutShort)
     unfolding GotField
     got_short x f = elim (dec_le (p + n) (8 * length l)) [
       | yes h ↦
@@ -53,22 +58,16 @@ module _ (l : List ℕ) (p n : ℕ) (few : n ≤ 64) (short : length l ≤ limit
 
 -- ---- a field out of a word that has it
 
-module _ (s : List Bool) (q h w n : ℕ) (r : Peeked) (known : Known s q h w) (l : n ≤ h) (behind : place r ≡ q + n) where
-  inside : q + n ≤ length s
-  unfolding Known
-  inside = omega (arith, known.1)
+pub known_room : (s : List Bool) (q h w n : ℕ) → Known s q h w → n ≤ h → q + n ≤ length s
+unfolding Known
+known_room s q h w n known few = omega (arith, known.1)
 
-  pub got_known : r.have ≡ h - n → r.word ≡ w * 2 ^ n % 2 ^ 64 → GotField s q n (Ok (w / 2 ^ (64 - n), r))
-  unfolding GotField
-  got_known e f =
-      let x = known_first s q h w n known l in
-      (inside, x, rw x (field_lt s q n), behind, rw (behind, e, f) (known_rest s q h w n known l))
-
-  pub got_digits : r.have ≡ 0 → r.word ≡ 0 → GotField s q n (Ok (w / 2 ^ (64 - n), r))
-  unfolding GotField
-  got_digits e f =
-      let x = known_first s q h w n known l in
-      (inside, x, rw x (field_lt s q n), behind, none_known s r e f (rw behind inside))
+pub got_known : (l : List ℕ) (q h w n : ℕ) (r : Peeked) → Known (bits l) q h w → n ≤ h → place r ≡ q + n → r.buf.now ≡ l
+    → GotField l q n (Ok (w / 2 ^ (64 - n), r))
+unfolding GotField
+got_known l q h w n r known few behind same =
+    let x = known_first (bits l) q h w n known few in
+    (known_room (bits l) q h w n known few, x, rw x (field_lt (bits l) q n), behind, same)
 
 -- a place in a buffer within the limit leaves room for the sum of it and a field
 pub place_fits : (l : List ℕ) (q n : ℕ) → q ≤ length (bits l) → length l ≤ limit → n ≤ 64 → q + n < 2 ^ 64
@@ -78,35 +77,39 @@ pub known_inside : (s : List Bool) (q h w : ℕ) → Known s q h w → q ≤ len
 unfolding Known
 known_inside s q h w k = omega (arith, k.1)
 
+-- a reader from the same place of the same bytes on
+pub at_place : (p : Peeked) (q : ℕ) (l : List ℕ) → (place p ≡ q) × (p.buf.now ≡ l) → (r : Reader) → from r p ≡ comes_to r q (bits l)
+at_place p q l e r = λ i. comes_to r (e.0 i) (bits (e.1 i))
+
 -- ---- a reader that begins with the field
 
-module _ (l : Label) (n : ℕ) (f : ℕ → Reader) (p : ℕ) (s : List Bool) where
-  pub by_short : (x : Refusal) → GotField s p n (Err x) → wrong_at (number_of x) 0 ≡ comes_to (ask l n f) p s
+module _ (a : Label) (n : ℕ) (f : ℕ → Reader) (p : ℕ) (l : List ℕ) where
+  pub by_short : (x : Refusal) → GotField l p n (Err x) → wrong_at (number_of x) 0 ≡ comes_to (ask a n f) p (bits l)
   unfolding GotField comes_to unplaced reached
-  by_short x k = rw (k.0, run_cut l n f p s k.1)
+  by_short x k = rw (k.0, run_cut a n f p (bits l) k.1)
 
-  pub by_whole : (x : ℕ × Peeked) → GotField s p n (Ok x) → comes_to (f x.0) (place x.1) s ≡ comes_to (ask l n f) p s
+  pub by_whole : (x : ℕ × Peeked) → GotField l p n (Ok x) → from (f x.0) x.1 ≡ comes_to (ask a n f) p (bits l)
   unfolding GotField comes_to
-  by_whole x k = rw (run_there l n f p s k.0, ← k.1, ← k.3)
+  by_whole x k = at_place x.1 _ l (k.3, k.4) (f x.0) ∙ rw (run_there a n f p (bits l) k.0, ← k.1) refl
 
-module _ (s : List Bool) (p n : ℕ) (x : ℕ × Peeked) (k : GotField s p n (Ok x)) where
+module _ (l : List ℕ) (p n : ℕ) (x : ℕ × Peeked) (k : GotField l p n (Ok x)) where
   -- its number has no more digits than were asked for
   pub whole_lt : x.0 < 2 ^ n
   unfolding GotField
   whole_lt = k.2
 
-  -- what is known of the bits behind it
-  pub whole_holds : Holds s x.1
+  -- what is behind it is on the same bytes
+  pub whole_on : x.1.buf.now ≡ l
   unfolding GotField
-  whole_holds = k.4
+  whole_on = k.4
 
 -- a field in which 0 chooses
-module _ (l : Label) (n : ℕ) (y : Reader) (z : ℕ → Reader) (p : ℕ) (s : List Bool) (x : ℕ × Peeked) (k : GotField s p n (Ok x)) where
-  pub by_zero : x.0 ≡ 0 → comes_to y (place x.1) s ≡ comes_to (ask l n (λ v. cond (eqb v 0) y (z v))) p s
-  by_zero h = rw h at (by_whole l n (λ v. cond (eqb v 0) y (z v)) p s x k)
+module _ (a : Label) (n : ℕ) (y : Reader) (z : ℕ → Reader) (p : ℕ) (l : List ℕ) (x : ℕ × Peeked) (k : GotField l p n (Ok x)) where
+  pub by_zero : x.0 ≡ 0 → from y x.1 ≡ comes_to (ask a n (λ v. cond (eqb v 0) y (z v))) p (bits l)
+  by_zero h = rw h at (by_whole a n (λ v. cond (eqb v 0) y (z v)) p l x k)
 
-  pub by_other : (x.0 ≡ 0 → ⊥) → comes_to (z x.0) (place x.1) s ≡ comes_to (ask l n (λ v. cond (eqb v 0) y (z v))) p s
-  by_other h = rw (ne_eqb x.0 0 h) at (by_whole l n (λ v. cond (eqb v 0) y (z v)) p s x k)
+  pub by_other : (x.0 ≡ 0 → ⊥) → from (z x.0) x.1 ≡ comes_to (ask a n (λ v. cond (eqb v 0) y (z v))) p (bits l)
+  by_other h = rw (ne_eqb x.0 0 h) at (by_whole a n (λ v. cond (eqb v 0) y (z v)) p l x k)
 
 -- ---- a reader that is done
 

@@ -8,13 +8,12 @@ use Rattle.std.specs.Prelude.{Some}
 use Rattle.stream.proofs.Bytes.{length_bits}
 use Rattle.stream.proofs.Taking.{none_read, field_high, field_low, shl_mod}
 use Rattle.stream.proofs.Outcomes.{ahead_there}
-use Rattle.decode.specs.declared.field.Peeked.{Peeked}
-use Rattle.decode.specs.Parts.{Known, place, Holds}
+use Rattle.decode.specs.Words.{Known}
 
 -- of nothing nothing is known
-pub none_known : (s : List Bool) (p : Peeked) → p.have ≡ 0 → p.word ≡ 0 → place p ≤ length s → Holds s p
+pub none_known : (s : List Bool) (q : ℕ) → q ≤ length s → Known s q 0 0
 unfolding Known
-none_known s p e f h = rw (e, f) (omega arith, omega arith, rw (← (none_read s (place p) 0 refl)) (sym (zero-mul (2 ^ 64))))
+none_known s q h = (omega arith, omega arith, rw (← (none_read s q 0 refl)) (sym (zero-mul (2 ^ 64))))
 
 -- a word that is there is known whole
 pub word_known : (l : List ℕ) (p w : ℕ) (a : Option ℕ) → tell_ahead a ≡ ahead_of l p → a ≡ Some w → Known (bits l) p 64 w

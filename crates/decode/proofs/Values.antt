@@ -7,17 +7,18 @@ use Rattle.layout.specs.Reading.{ask, item, window_zeros, value_digits, Reader, 
 use Rattle.layout.specs.Answers.{wrong_at}
 use Rattle.decode.specs.declared.field.Peeked.{Peeked}
 use Rattle.std.specs.Prelude.{Ok}
-use Rattle.decode.specs.Parts.{place, GotField, comes_to}
+use Rattle.stream.specs.Bits.{bits}
+use Rattle.decode.specs.Parts.{place, GotField, comes_to, from}
 use Rattle.decode.proofs.Fields.{by_whole, whole_lt, done_wrong}
 
 -- the digits of a window, shifted among 64: none is lost
-pub digits_read : (s : List Bool) (p v : ℕ) (w : Window) (x : ℕ × Peeked) → GotField s p (64 - w.lead - w.trail) (Ok x) → w.lead + w.trail < 64
-    → (f : Window → ℕ → Reader) → comes_to (f w (bit_xor (x.0 * 2 ^ w.trail % 2 ^ 64) v)) (place x.1) s ≡ comes_to (read_digits 6 v w f) p s
+pub digits_read : (l : List ℕ) (p v : ℕ) (w : Window) (x : ℕ × Peeked) → GotField l p (64 - w.lead - w.trail) (Ok x) → w.lead + w.trail < 64
+    → (f : Window → ℕ → Reader) → from (f w (bit_xor (x.0 * 2 ^ w.trail % 2 ^ 64) v)) x.1 ≡ comes_to (read_digits 6 v w f) p (bits l)
 unfolding read_digits
-digits_read s p v w x k h f =
+digits_read l p v w x k h f =
     let n = 64 - w.lead - w.trail in
-    let exact : x.0 * 2 ^ w.trail % 2 ^ 64 ≡ x.0 * 2 ^ w.trail = shl_exact n w.trail 64 (whole_lt s p n x k) (omega arith) in
-    rw exact (by_whole (item value_digits 0) n (λ x. f w (bit_xor (x * 2 ^ w.trail) v)) p s x k)
+    let exact : x.0 * 2 ^ w.trail % 2 ^ 64 ≡ x.0 * 2 ^ w.trail = shl_exact n w.trail 64 (whole_lt l p n x k) (omega arith) in
+    rw exact (by_whole (item value_digits 0) n (λ x. f w (bit_xor (x * 2 ^ w.trail) v)) p l x k)
 
 -- a window of l leading zeros and k digits
 module _ (v l k q : ℕ) (s : List Bool) (f : Window → ℕ → Reader) where
@@ -30,9 +31,9 @@ module _ (v l k q : ℕ) (s : List Bool) (f : Window → ℕ → Reader) where
   opened_good h = rw (le-ltb 64 (l + k) h)
 
 -- the two fields of a window
-pub window_read_lem : (s : List Bool) (p v : ℕ) (x y : ℕ × Peeked) → GotField s p 6 (Ok x) → GotField s (place x.1) 6 (Ok y)
-    → (f : Window → ℕ → Reader) → comes_to (read_opened 6 v f x.0 (y.0 + 1)) (place y.1) s ≡ comes_to (read_window 6 v f) p s
+pub window_read_lem : (l : List ℕ) (p v : ℕ) (x y : ℕ × Peeked) → GotField l p 6 (Ok x) → GotField x.1.buf.now (place x.1) 6 (Ok y)
+    → (f : Window → ℕ → Reader) → from (read_opened 6 v f x.0 (y.0 + 1)) y.1 ≡ comes_to (read_window 6 v f) p (bits l)
 unfolding read_window
-window_read_lem s p v x y k k' f =
-    by_whole (item window_zeros 6) 6 (λ k. read_opened 6 v f x.0 (k + 1)) (place x.1) s y k'
-    ∙ by_whole (item window_zeros 0) 6 (λ l. ask (item window_zeros 6) 6 (λ k. read_opened 6 v f l (k + 1))) p s x k
+window_read_lem l p v x y k k' f =
+    by_whole (item window_zeros 6) 6 (λ k. read_opened 6 v f x.0 (k + 1)) (place x.1) x.1.buf.now y k'
+    ∙ by_whole (item window_zeros 0) 6 (λ z. ask (item window_zeros 6) 6 (λ k. read_opened 6 v f z (k + 1))) p l x k

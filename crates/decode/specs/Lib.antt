@@ -1,5 +1,6 @@
 pub mod States
 pub mod Calls
+pub mod Words
 pub mod Parts
 pub mod Promises
 pub mod Lists

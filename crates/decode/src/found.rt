@@ -1,15 +1,14 @@
 // What stands next in a stream: a point, the end, or why there is none.
 
-ghost use Rattle.std.specs.Prelude.{◌≡◌, ◌+◌, ◌<◌, ◌≤◌, length};
+ghost use Rattle.std.specs.Prelude.{◌≡◌, ◌+◌, ◌<◌};
 ghost use Rattle.stream.specs.Bits.{bits};
-ghost use Rattle.stream.specs.Calls.{limit};
 ghost use Rattle.layout.specs.Rows.{signed};
 ghost use Rattle.layout.specs.Writing.{state};
 ghost use Rattle.layout.specs.Reading.{ask, done, item, value_digits, point, read_marker, read_first, read_later, read_value, first_time, after_dod};
 ghost use Rattle.layout.specs.Answers.{first_step};
-ghost use Rattle.decode.specs.Parts.{place, Holds, unplaced, comes_to, found_of, Carried};
+ghost use Rattle.decode.specs.Parts.{place, unplaced, from, found_of, Carried};
 
-use super::field::{Peeked, peek, read};
+use super::field::Peeked;
 use super::raw_dod::RawDod;
 use super::timestamp::{Dod, new_time, read_dod};
 use super::value::read_next_value;
@@ -18,9 +17,9 @@ use stream::{BufferedReader, Refusal};
 
 // A point, as what is kept of it, and what is behind it; or the end.
 #[derive(Clone, Copy)]
-pub enum Found {
+pub enum Found<'a> {
     End(BufferedReader),
-    Point(State, Peeked),
+    Point(State, Peeked<'a>),
 }
 
 // The marker 1111 and 32 zeros, behind its first bit.
@@ -31,17 +30,10 @@ const MARKER_REST_LEN: u32 = 35;
 // ---- the first point
 
 // Its value, whole.
-fn read_first_value(
-    r: BufferedReader,
-    buf: &[u8],
-    time: u64,
-    delta: u64,
-    window: Window,
-) -> Result<Found, Refusal>
-    requires { length buf.now ≤ limit }
-    ensures { found_of result ≡ comes_to (ask (item value_digits 0) 64 (λ v. done (point (state time delta v window)))) r.at.0 (bits buf.now) }
+fn read_first_value(p: Peeked, time: u64, delta: u64, window: Window) -> Result<Found, Refusal>
+    ensures { found_of result ≡ from (ask (item value_digits 0) 64 (λ v. done (point (state time delta v window)))) p.entry }
 {
-    let (value, rest) = read(r, buf, 64)?;
+    let (value, rest) = p.read(64)?;
     let kept = State {
         time,
         delta,
@@ -52,28 +44,21 @@ fn read_first_value(
 }
 
 // Its delta, which is no dod yet, then its value.
-fn read_first_time(
-    r: BufferedReader,
-    buf: &[u8],
-    start: u64,
-    window: Window,
-) -> Result<Found, Refusal>
-    requires { length buf.now ≤ limit }
-    ensures { found_of result ≡ comes_to (first_time 6 start window) r.at.0 (bits buf.now) }
+fn read_first_time(p: Peeked, start: u64, window: Window) -> Result<Found, Refusal>
+    ensures { found_of result ≡ from (first_time 6 start window) p.entry }
 {
-    let (delta, rest) = read(r, buf, 14)?;
+    let (delta, rest) = p.read(14)?;
     if u64::MAX - start < delta {
         return Err(Refusal::ReadTimePasses);
     }
-    read_first_value(rest.r, buf, start + delta, delta, window)
+    read_first_value(rest, start + delta, delta, window)
 }
 
 // The marker in its place, behind the control bit.
-fn read_marker(r: BufferedReader, buf: &[u8]) -> Result<Found, Refusal>
-    requires { length buf.now ≤ limit }
-    ensures { found_of result ≡ comes_to read_marker r.at.0 (bits buf.now) }
+fn read_marker(p: Peeked) -> Result<Found, Refusal>
+    ensures { found_of result ≡ from read_marker p.entry }
 {
-    let (marker, rest) = read(r, buf, MARKER_REST_LEN)?;
+    let (marker, rest) = p.read(MARKER_REST_LEN)?;
     if marker == MARKER_REST {
         return Ok(Found::End(rest.r));
     }
@@ -81,44 +66,34 @@ fn read_marker(r: BufferedReader, buf: &[u8]) -> Result<Found, Refusal>
 }
 
 // Its control bit: a point, or the end of a series that has none.
-fn read_first(r: BufferedReader, buf: &[u8], start: u64, window: Window) -> Result<Found, Refusal>
-    requires { length buf.now ≤ limit }
-    ensures { found_of result ≡ comes_to (read_first 6 start window) r.at.0 (bits buf.now) }
+fn read_first(p: Peeked, start: u64, window: Window) -> Result<Found, Refusal>
+    ensures { found_of result ≡ from (read_first 6 start window) p.entry }
 {
-    let (control_bit, rest) = read(r, buf, 1)?;
+    let (control_bit, rest) = p.read(1)?;
     if control_bit == 0 {
-        return read_first_time(rest.r, buf, start, window);
+        return read_first_time(rest, start, window);
     }
-    read_marker(rest.r, buf)
+    read_marker(rest)
 }
 
 // The start, then the first point.
-pub(super) fn read_start(r: BufferedReader, buf: &[u8], window: Window) -> Result<Found, Refusal>
-    requires { length buf.now ≤ limit }
-    ensures { found_of result ≡ unplaced (first_step 6 window r.at.0 (bits buf.now)) }
+pub(super) fn read_start(p: Peeked, window: Window) -> Result<Found, Refusal>
+    ensures { found_of result ≡ unplaced (first_step 6 window (place p.entry) (bits p.entry.buf.now)) }
 {
-    let Ok((start, rest)) = read(r, buf, 64) else {
+    let Ok((start, rest)) = p.read(64) else {
         return Err(Refusal::NoStart);
     };
-    read_first(rest.r, buf, start, window)
+    read_first(rest, start, window)
 }
 
 // ---- a later point
 
 // Its value, behind its time.
-fn read_later_value(
-    r: Peeked,
-    buf: &[u8],
-    k: State,
-    time: u64,
-    delta: u64,
-) -> Result<Found, Refusal>
+fn read_later_value(p: Peeked, k: State, time: u64, delta: u64) -> Result<Found, Refusal>
     requires trail_bound { k.window.lead + k.window.trail < 64 }
-    requires buf_len_bound { length buf.now ≤ limit }
-    requires holds { Holds (bits buf.now) r }
-    ensures { (found_of result ≡ comes_to (read_value 6 k.value k.window (λ w v. done (point (state time delta v w)))) (place r) (bits buf.now)) × Carried (bits buf.now) result }
+    ensures { (found_of result ≡ from (read_value 6 k.value k.window (λ w v. done (point (state time delta v w)))) p.entry) × Carried p.entry.buf.now result }
 {
-    let value = read_next_value(r, buf, k.value, k.window)?;
+    let value = read_next_value(p, k.value, k.window)?;
     let next = State {
         time,
         delta,
@@ -129,37 +104,22 @@ fn read_later_value(
 }
 
 // Its time, from the dod's field, then its value.
-fn read_later_time(r: Peeked, buf: &[u8], k: State, field: RawDod) -> Result<Found, Refusal>
+fn read_later_time(p: Peeked, k: State, field: RawDod) -> Result<Found, Refusal>
     requires trail_bound { k.window.lead + k.window.trail < 64 }
-    requires buf_len_bound { length buf.now ≤ limit }
-    requires holds { Holds (bits buf.now) r }
-    ensures { (found_of result ≡ comes_to (after_dod 6 k (signed field.width field.raw)) (place r) (bits buf.now)) × Carried (bits buf.now) result }
+    ensures { (found_of result ≡ from (after_dod 6 k (signed field.width field.raw)) p.entry) × Carried p.entry.buf.now result }
 {
     let (time, delta) = new_time(k.time, k.delta, field)?;
-    read_later_value(r, buf, k, time, delta)
-}
-
-// What is known of the bits behind a reader, with enough of them for a time and a value's head, which have at most 36 and 14, where the buffer has as many.
-fn refilled(p: Peeked, buf: &[u8]) -> Peeked
-    requires { Holds (bits buf.now) p }
-    ensures { (place result ≡ place p) × Holds (bits buf.now) result }
-{
-    if 50 <= p.have {
-        return p;
-    }
-    peek(p.r, buf)
+    read_later_value(p, k, time, delta)
 }
 
 // A point that follows another, or the end.
-pub(super) fn read_later(r: Peeked, buf: &[u8], k: State) -> Result<Found, Refusal>
+pub(super) fn read_later(p: Peeked, k: State) -> Result<Found, Refusal>
     requires trail_bound { k.window.lead + k.window.trail < 64 }
-    requires buf_len_bound { length buf.now ≤ limit }
-    requires holds { Holds (bits buf.now) r }
-    ensures { (found_of result ≡ comes_to (read_later 6 k) (place r) (bits buf.now)) × Carried (bits buf.now) result }
+    ensures { (found_of result ≡ from (read_later 6 k) p.entry) × Carried p.entry.buf.now result }
 {
-    let dod = read_dod(refilled(r, buf), buf)?;
+    let dod = read_dod(p.refilled())?;
     match dod {
         Dod::End(rest) => Ok(Found::End(rest)),
-        Dod::Got(field, rest) => read_later_time(rest, buf, k, field),
+        Dod::Got(field, rest) => read_later_time(rest, k, field),
     }
 }

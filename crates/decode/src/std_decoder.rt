@@ -98,11 +98,11 @@ fn look(d: StdDecoder, buf: &[u8]) -> Result<Found, Refusal>
     requires { no_fit 6 (view d) (length buf.now) ≡ false }
     ensures { found_of result ≡ unplaced (onward 6 (view d) (bits buf.now)) }
 {
-    let r = d.r;
+    let p = bare(d.r, buf);
     if d.first {
-        return read_start(r, buf, d.kept.window);
+        return read_start(p, d.kept.window);
     }
-    read_later(bare(r), buf, d.kept)
+    read_later(p, d.kept)
 }
 
 // The decoder behind a point.
@@ -120,7 +120,7 @@ fn behind(k: State, r: BufferedReader, len: ByteCount) -> StdDecoder
 
 // The answer to what was found, and the decoder after it.
 fn take(d: StdDecoder, f: Result<Found, Refusal>) -> Decoded<Step>
-    ensures { told_next result ≡ stepped (view d) (found_of f) }
+    ensures { told_next result ≡ stepped (view d) (found_of f.entry) }
 {
     match f {
         Err(why) => stop(d, Step::Refused(why)),

@@ -50,9 +50,9 @@ fn unpack_later(
 {
     let len = d.len;
     let mut k = d.kept;
-    let mut p = bare(d.r);
+    let mut p = bare(d.r, buf);
     for i in from..n {
-        match read_later(p, buf, k) {
+        match read_later(p, k) {
             Err(why) => {
                 return stopped(i, behind(k, p.r, len), Step::Refused(why));
             }
@@ -96,7 +96,7 @@ fn unpack_first(
     requires d_value { ((view d).first ≡ true) × ((view d).ended ≡ still) }
     ensures { told_unpacked result times.new values.new ≡ filling_from 0 times.old values.old (unpacks_of 6 n (view d) (length buf.now) (bits buf.now)) }
 {
-    let found = read_start(d.r, buf, d.kept.window);
+    let found = read_start(bare(d.r, buf), d.kept.window);
     let next = take(d, found);
     let e = next.decoder;
     let answer = next.answer;

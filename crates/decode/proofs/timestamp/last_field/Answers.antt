@@ -1,12 +1,12 @@
 use Rattle.std.proofs.lemmas.Result.{err_from_is_err_and}
-use Rattle.std.proofs.Common.{◌∙◌, arith, rules}
+use Rattle.std.proofs.Common.{◌∙◌, arith}
 use Rattle.decode.specs.Parts.{then_found, Then, dod_then, FieldOf}
-use Rattle.decode.proofs.Fields.{by_short, by_zero, by_other, whole_lt, done_end, whole_holds}
+use Rattle.decode.proofs.Fields.{by_short, by_zero, by_other, whole_lt, done_end, whole_on}
 use Rattle.decode.proofs.Dods.{row_width, last_row}
 use Rattle.decode.proofs.timestamp.last_field.Goals as goal
 
 pub get-requires : goal.get-requires
-get-requires c = record { le_n = omega (arith, row_width 3 _ c.row_at-last.ensures); buf_len_bound = search rules; holds = search rules }
+get-requires c = record { le_n = omega (arith, row_width 3 _ c.row_at-last.ensures) }
 
 pub returns-then-raw-eq0 : goal.returns-then-raw-eq0
 unfolding then_found Then dod_then FieldOf
@@ -20,7 +20,7 @@ pub returns : goal.returns
 unfolding then_found Then dod_then FieldOf
 returns c = (
   λ f. by_other _ _ _ _ _ _ _ c.in_ok-raw.ensures (omega arith) ∙ last_row _ c.row_at-last.ensures f _ _,
-  whole_holds _ _ _ _ c.in_ok-raw.ensures,
+  whole_on _ _ _ _ c.in_ok-raw.ensures,
 )
 
 pub invariant_of-result : goal.invariant_of-result

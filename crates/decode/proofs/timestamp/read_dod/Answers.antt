@@ -1,9 +1,9 @@
 use Rattle.std.proofs.lemmas.Result.{err_from_is_err_and}
-use Rattle.std.proofs.Common.{◌∙◌, arith, rules}
+use Rattle.std.proofs.Common.{◌∙◌, arith}
 use Rattle.layout.specs.Reading.{read_dod}
 use Rattle.layout.specs.Rows.{signed}
 use Rattle.decode.specs.Parts.{then_found, Then, dod_then, FieldOf}
-use Rattle.decode.proofs.Fields.{by_short, by_zero, by_other, whole_holds}
+use Rattle.decode.proofs.Fields.{by_short, by_zero, by_other, whole_on}
 use Rattle.decode.proofs.timestamp.read_dod.Goals as goal
 
 pub returns-in_err-bit : goal.returns-in_err-bit
@@ -12,14 +12,11 @@ returns-in_err-bit c = let p = err_from_is_err_and c.from_residual.result c.from
 
 pub returns-then-bit-eq0 : goal.returns-then-bit-eq0
 unfolding then_found Then dod_then FieldOf read_dod signed
-returns-then-bit-eq0 c = (λ f. by_zero _ _ _ _ _ _ _ c.in_ok-bit.ensures (omega arith), whole_holds _ _ _ _ c.in_ok-bit.ensures)
-
-pub read_row-requires : goal.read_row-requires
-read_row-requires c = record { buf_len_bound = search rules; holds = whole_holds _ _ _ _ c.in_ok-bit.ensures }
+returns-then-bit-eq0 c = (λ f. by_zero _ _ _ _ _ _ _ c.in_ok-bit.ensures (omega arith), whole_on _ _ _ _ c.in_ok-bit.ensures)
 
 pub returns : goal.returns
 unfolding read_dod
 returns c = (
   λ f. c.read_row.ensures.0 f ∙ by_other _ _ _ _ _ _ _ c.in_ok-bit.ensures (omega arith),
-  c.read_row.ensures.1,
+  rw (whole_on _ _ _ _ c.in_ok-bit.ensures) at c.read_row.ensures.1,
 )

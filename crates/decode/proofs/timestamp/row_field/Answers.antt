@@ -1,7 +1,7 @@
 use Rattle.std.proofs.lemmas.Result.{err_from_is_err_and}
 use Rattle.std.proofs.Common.{rules}
 use Rattle.decode.specs.Parts.{then_found, Then, dod_then, FieldOf}
-use Rattle.decode.proofs.Fields.{by_short, by_whole, whole_lt, whole_holds}
+use Rattle.decode.proofs.Fields.{by_short, by_whole, whole_lt, whole_on}
 use Rattle.decode.proofs.timestamp.row_field.Goals as goal
 
 pub returns-in_err-raw : goal.returns-in_err-raw
@@ -12,7 +12,7 @@ pub returns : goal.returns
 unfolding then_found Then dod_then FieldOf
 returns c = (
   λ f. by_whole _ _ _ _ _ _ c.in_ok-raw.ensures,
-  whole_holds _ _ _ _ c.in_ok-raw.ensures,
+  whole_on _ _ _ _ c.in_ok-raw.ensures,
 )
 
 pub invariant_of-result : goal.invariant_of-result

@@ -2,7 +2,7 @@ use Rattle.std.proofs.lemmas.Result.{err_from_is_err_and}
 use Rattle.std.proofs.Common.{arith}
 use Rattle.layout.specs.Reading.{read_digits}
 use Rattle.decode.specs.Parts.{then_found, Then}
-use Rattle.decode.proofs.Fields.{by_short, whole_holds}
+use Rattle.decode.proofs.Fields.{by_short, whole_on}
 use Rattle.decode.proofs.Values.{digits_read}
 use Rattle.decode.proofs.value.read_digits.Goals as goal
 
@@ -15,5 +15,5 @@ unfolding then_found Then
 returns c =
     let a = c.args in (
       λ f. digits_read _ _ a.previous a.w _ c.in_ok-x.ensures (omega arith) f,
-      (whole_holds _ _ _ _ c.in_ok-x.ensures, omega arith),
+      (whole_on _ _ _ _ c.in_ok-x.ensures, omega arith),
     )

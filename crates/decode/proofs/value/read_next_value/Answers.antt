@@ -5,7 +5,7 @@ use Rattle.decode.proofs.value.read_next_value.Goals as goal
 
 pub read_digits-requires : goal.read_digits-requires
 unfolding Then SoundHead
-read_digits-requires c = let k = rw c.in-Digits.is at c.in_ok-head.ensures.1 in record { trail_bound = k.0; buf_len_bound = search rules; at_in_bounds = k.1 }
+read_digits-requires c = let k = rw c.in-Digits.is at c.in_ok-head.ensures.1 in record { trail_bound = k.0 }
 
 pub returns-in_err-head : goal.returns-in_err-head
 unfolding then_found Then
@@ -16,5 +16,5 @@ unfolding then_found Then head_then SoundHead
 returns-in-Same c = let k = rw c.in-Same.is at c.in_ok-head.ensures in (λ f. k.0 _ f, (k.1, search rules))
 
 pub returns-in-Digits : goal.returns-in-Digits
-unfolding then_found head_then
-returns-in-Digits c = let k = rw c.in-Digits.is at c.in_ok-head.ensures in (λ f. c.read_digits.ensures.0 f ∙ k.0 _ f, c.read_digits.ensures.1)
+unfolding then_found Then head_then SoundHead
+returns-in-Digits c = let k = rw c.in-Digits.is at c.in_ok-head.ensures in (λ f. c.read_digits.ensures.0 f ∙ k.0 _ f, rw k.1.1 at c.read_digits.ensures.1)

@@ -1,17 +1,14 @@
 use Rattle.std.proofs.lemmas.Result.{err_from_is_err_and}
-use Rattle.std.proofs.Common.{◌∙◌, arith, rules}
+use Rattle.std.proofs.Common.{◌∙◌, arith}
 use Rattle.layout.specs.Reading.{read_window}
 use Rattle.decode.specs.Parts.{then_found, Then, head_then, SoundHead}
-use Rattle.decode.proofs.Fields.{by_short, by_whole, whole_lt, whole_holds, known_inside}
+use Rattle.decode.proofs.Fields.{by_short, by_whole, whole_lt, whole_on}
 use Rattle.decode.proofs.Values.{opened_bad, opened_good, window_read_lem}
 use Rattle.decode.proofs.value.read_window.Goals as goal
 
 pub returns-in_err-zeros : goal.returns-in_err-zeros
 unfolding then_found Then SoundHead read_window
 returns-in_err-zeros c = let p = err_from_is_err_and c.from_residual.result c.from_residual.ensures.1 in rw (p.1, p.2) (λ v w f. by_short _ _ _ _ _ _ c.in_err-zeros.ensures, tt)
-
-pub get-requires-2 : goal.get-requires-2
-get-requires-2 c = record { le_n = search rules; buf_len_bound = search rules; holds = whole_holds _ _ _ _ c.in_ok-zeros.ensures }
 
 pub returns-in_err-less : goal.returns-in_err-less
 unfolding then_found Then SoundHead read_window
@@ -42,5 +39,5 @@ unfolding then_found Then head_then SoundHead
 returns c = (
   λ v w f. opened_good v _ _ _ _ f (omega arith)
       ∙ window_read_lem _ _ _ _ _ c.in_ok-zeros.ensures c.in_ok-less.ensures f,
-  (omega arith, known_inside _ _ _ _ (whole_holds _ _ _ _ c.in_ok-less.ensures)),
+  (omega arith, whole_on _ _ _ _ c.in_ok-less.ensures ∙ whole_on _ _ _ _ c.in_ok-zeros.ensures),
 )
