@@ -8,7 +8,7 @@ use std::fmt::{self, Display, Formatter};
 use std::io::{self, Stdout};
 use stream::{BitPos, ByteCount};
 
-// The bits of 1.0 and 0.5.
+// The bits of 1.0 and 0.5, as in `marked`: a crate for two numbers would be no plainer.
 const ONE: u64 = 0x3ff0_0000_0000_0000;
 
 const HALF: u64 = 0x3fe0_0000_0000_0000;
@@ -24,7 +24,7 @@ impl Display for Used {
     }
 }
 
-// An encoder whose calls are told.
+// An encoder whose calls are told. `marked` has one too: it makes other calls and tells more of each, so that one type for both would be no plainer.
 #[derive(Clone, Copy)]
 struct Encoder {
     out: Stdout,
