@@ -1,6 +1,7 @@
 // A case, by the letter of its first word.
 
 use super::{Page, decoding, encoding, reading, writing};
+use shown::Refused;
 use std::fmt::{self, Display, Formatter};
 use stream::Refusal;
 
@@ -21,10 +22,7 @@ impl Display for Fault {
     fn fmt<W: fmt::Write>(&self, f: &mut Formatter<W>) -> fmt::Result {
         match self {
             Fault::NoCase => write!(f, "line not understood"),
-            Fault::Refused(why) => {
-                let number = why.number();
-                write!(f, "refused {number}")
-            }
+            Fault::Refused(why) => write!(f, "{}", Refused(*why)),
         }
     }
 }

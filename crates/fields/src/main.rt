@@ -4,6 +4,7 @@
 
 #![tactic(auto)]
 
+use shown::{Bytes, Hex, Told};
 use std::fmt::{self, Display, Formatter};
 use std::io::{self, Stdout};
 use stream::buffered_write::Written;
@@ -30,17 +31,6 @@ const COUNTS: [usize; 9] = [
     18_446_744_073_709_551_615,
 ];
 
-// "refused R". `marked` and `lending` have the same: a library of printing would have public calls whose outcome is not stated, which document 01 forbids.
-#[derive(Clone, Copy)]
-struct Refused(Refusal);
-
-impl Display for Refused {
-    fn fmt<W: fmt::Write>(&self, f: &mut Formatter<W>) -> fmt::Result {
-        let number = self.0.number();
-        write!(f, "refused {number}")
-    }
-}
-
 // "at P"
 #[derive(Clone, Copy)]
 struct At(BitPos);
@@ -58,23 +48,7 @@ struct Got(Result<u64, Refusal>, BitPos);
 
 impl Display for Got {
     fn fmt<W: fmt::Write>(&self, f: &mut Formatter<W>) -> fmt::Result {
-        match self.0 {
-            Ok(n) => write!(f, "{n:x} {}", At(self.1)),
-            Err(why) => write!(f, "{} {}", Refused(why), At(self.1)),
-        }
-    }
-}
-
-// Two digits a byte.
-#[derive(Clone, Copy)]
-struct Hex<'a>(&'a [u8]);
-
-impl Display for Hex<'_> {
-    fn fmt<W: fmt::Write>(&self, f: &mut Formatter<W>) -> fmt::Result {
-        for b in self.0 {
-            write!(f, "{b:02x}")?;
-        }
-        Ok(())
+        write!(f, "{} {}", Told(self.0.map(Hex)), At(self.1))
     }
 }
 
@@ -108,11 +82,9 @@ fn write_case<D: Display + Drop, F: FnOnce(&mut [u8]) -> Written>(
 {
     dirty(buf);
     let done = write(buf);
+    let answer = Told(done.answer.map(|()| "done"));
     let at = At(done.writer.position());
-    match done.answer {
-        Ok(()) => println!(out; "{title}: done {at} {}", Hex(buf)),
-        Err(why) => println!(out; "{title}: {} {at} {}", Refused(why), Hex(buf)),
-    }
+    println!(out; "{title}: {answer} {at} {}", Bytes(buf))
 }
 
 // A byte, each bit and a field of each width, at the writer's place.
@@ -162,12 +134,9 @@ fn run(out: Stdout, title: &str, other: &mut [u8], buf: &mut [u8], p: usize) -> 
 
 // Bytes as bits and bits as bytes.
 fn convert(out: Stdout, n: usize) -> io::Result<()> {
-    print!(out; "{n} bytes: ")?;
-    match BitPos::try_from(ByteCount::new(n)) {
-        Ok(place) => print!(out; "{}", At(place))?,
-        Err(why) => print!(out; "{}", Refused(why))?,
-    }
-    println!(out; ", {n} bits: {}", ByteCount::from(BitPos::new(n)).get())
+    let place = Told(BitPos::try_from(ByteCount::new(n)).map(At));
+    let bytes = ByteCount::from(BitPos::new(n)).get();
+    println!(out; "{n} bytes: {place}, {n} bits: {bytes}")
 }
 
 fn main(rt: HostRuntime) -> io::Result<()> {

@@ -1,8 +1,8 @@
 // A stream decoded in place, a line for each answer.
 
-use super::say::Stepped;
 use decode::StdDecoder;
 use lent::decoder::next_lent;
+use shown::Stepped;
 use std::io::{self, Stdout};
 
 // So many steps, each on the state that the last one left.

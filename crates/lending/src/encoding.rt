@@ -1,19 +1,19 @@
 // A series encoded in place, each call with a line that says what it was given and what it answered.
 
-use super::say::{Point, Told};
 use encode::StdEncoder;
 use lent::encoder::{close_lent, encode_lent};
 use point::Stored;
+use shown::{Point, Told};
 use std::fmt::{self, Display, Formatter};
 use std::io::{self, Stdout};
 use stream::{BitPos, ByteCount};
 
-// The bits of 1.0 and 0.5.
+// The bits of 1.0 and 0.5, as in `marked`: a crate for two numbers would be no plainer.
 const ONE: u64 = 0x3ff0_0000_0000_0000;
 
 const HALF: u64 = 0x3fe0_0000_0000_0000;
 
-// "M bits in N bytes"
+// "M bits in N bytes". `marked` has a comma for the "in", and what each prints may not change, so each has a type of its own.
 #[derive(Clone, Copy)]
 struct Used((BitPos, ByteCount));
 
@@ -24,7 +24,7 @@ impl Display for Used {
     }
 }
 
-// An encoder whose calls are told.
+// An encoder whose calls are told. `marked` has one too: it makes other calls and tells more of each, so that one type for both would be no plainer.
 #[derive(Clone, Copy)]
 struct Encoder {
     out: Stdout,

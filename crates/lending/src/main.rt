@@ -7,7 +7,6 @@
 mod decoding;
 mod encoding;
 mod reading;
-mod say;
 
 use std::io;
 

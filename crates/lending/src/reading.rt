@@ -1,7 +1,7 @@
 // Bytes read two fields at a time, each pair by one reader that holds them.
 
-use super::say::{Hex, Told};
 use lent::held_reader::{first_bits, read_two};
+use shown::{Hex, Told};
 use std::io::{self, Stdout};
 use stream::BitPos;
 

@@ -1,11 +1,12 @@
 // The calls of the encoder and the decoder, each with a line that says what it was given and what it answered.
 
-use super::say::{Coded, Point, Stepped, Told, Used, say_buffer};
+use super::say::{Coded, Used, say_buffer};
 use decode::StdDecoder;
 use decode::std_decoder::Step;
 use encode::StdEncoder;
 use encode::std_encoder::Encoded;
 use point::{DataPoint, Stored};
+use shown::{Point, Stepped, Told};
 use std::io::{self, Stdout};
 
 // The bits of 1.0 and 0.5.

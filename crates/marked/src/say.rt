@@ -1,62 +1,11 @@
-// What the program prints: points, codes, bytes and answers. `lending` and `fields` have some of the same: a library of printing
-// would have public calls whose outcome is not stated, which document 01 forbids.
+// What the program prints beside what `shown` has: codes, what is in use, and buffers.
 
-use decode::std_decoder::Step;
 use encode::code::{Code, PointCode};
 use layout::Window;
-use point::Stored;
+use shown::Bytes;
 use std::fmt::{self, Display, Formatter};
 use std::io::{self, Stdout};
-use stream::{BitPos, ByteCount, Refusal};
-
-// "refused R"
-#[derive(Clone, Copy)]
-struct Refused(Refusal);
-
-impl Display for Refused {
-    fn fmt<W: fmt::Write>(&self, f: &mut Formatter<W>) -> fmt::Result {
-        let number = self.0.number();
-        write!(f, "refused {number}")
-    }
-}
-
-// What a call answered.
-#[derive(Clone, Copy)]
-pub(super) struct Told<T>(pub(super) Result<T, Refusal>);
-
-impl<T: Display> Display for Told<T> {
-    fn fmt<W: fmt::Write>(&self, f: &mut Formatter<W>) -> fmt::Result {
-        match &self.0 {
-            Ok(answer) => write!(f, "{answer}"),
-            Err(why) => write!(f, "{}", Refused(*why)),
-        }
-    }
-}
-
-// What a decoder's step answered.
-#[derive(Clone, Copy)]
-pub(super) struct Stepped(pub(super) Step);
-
-impl Display for Stepped {
-    fn fmt<W: fmt::Write>(&self, f: &mut Formatter<W>) -> fmt::Result {
-        match self.0 {
-            Step::Point(p, at) => write!(f, "point {} at {}", Point(p), at.get()),
-            Step::End(at) => write!(f, "end at {}", at.get()),
-            Step::Refused(why) => write!(f, "{}", Refused(why)),
-        }
-    }
-}
-
-// "T V", the value as its 64 bits in hex.
-#[derive(Clone, Copy)]
-pub(super) struct Point(pub(super) Stored);
-
-impl Display for Point {
-    fn fmt<W: fmt::Write>(&self, f: &mut Formatter<W>) -> fmt::Result {
-        let Stored { time, bits } = self.0;
-        write!(f, "{time} {bits:016x}")
-    }
-}
+use stream::{BitPos, ByteCount};
 
 // "B/L": L bits, as a number in hex.
 #[derive(Clone, Copy)]
@@ -101,23 +50,10 @@ impl Display for Used {
     }
 }
 
-// Two digits a byte.
-#[derive(Clone, Copy)]
-struct Hex<'a>(&'a [u8]);
-
-impl Display for Hex<'_> {
-    fn fmt<W: fmt::Write>(&self, f: &mut Formatter<W>) -> fmt::Result {
-        for b in self.0 {
-            write!(f, "{b:02x}")?;
-        }
-        Ok(())
-    }
-}
-
 // A line with the first n bytes and, behind a bar, the others, which must still be dirty.
 pub(super) fn say_buffer(out: Stdout, buf: &[u8], n: usize) -> io::Result<()> {
     if let Some((used, rest)) = buf.split_at_checked(n) {
-        println!(out; "{}|{}", Hex(used), Hex(rest))?;
+        println!(out; "{}|{}", Bytes(used), Bytes(rest))?;
     }
     Ok(())
 }
