@@ -8,7 +8,7 @@ ghost use Rattle.decode.specs.Parts.{unplaced, found_of, AtOnce};
 
 use super::field::bare;
 use super::found::{Found, read_later, read_start};
-use layout::{State, Window};
+use layout::{NOTHING, State};
 use point::Stored;
 use stream::{BitPos, BufferedReader, ByteCount, LIMIT, Refusal};
 
@@ -41,14 +41,6 @@ pub struct Decoded<T> {
     pub answer: T,
     pub decoder: StdDecoder,
 }
-
-// What is kept before the first point: nothing, and the window with which a decoder begins.
-const NOTHING: State = State {
-    time: 0,
-    delta: 0,
-    value: 0,
-    window: Window { lead: 0, trail: 0 },
-};
 
 // 13: the state is not one that a decoder of a buffer of n bytes can be in.
 fn no_fit(d: StdDecoder, n: usize) -> bool

@@ -13,7 +13,7 @@ ghost use Rattle.encode.specs.Parts.{Coded};
 use super::code::{Code, PointCode};
 use super::last::{Last, code_after};
 use super::put::{bits_before, put, put_point};
-use layout::{State, Window};
+use layout::{NOTHING, State, Window};
 use point::{DataPoint, Stored};
 use stream::{BitPos, BufferedWriter, ByteCount, LIMIT, Refusal};
 
@@ -133,13 +133,7 @@ pub(super) fn offer(e: StdEncoder, buf: &mut [u8], p: Stored) -> Encoded<()>
 fn never_opened() -> StdEncoder
     ensures { view result ≡ shut }
 {
-    let window = Window { lead: 0, trail: 0 };
-    let kept = State {
-        time: 0,
-        delta: 0,
-        value: 0,
-        window,
-    };
+    let kept = NOTHING;
     StdEncoder {
         last: Last { kept, first: false },
         closed: true,

@@ -100,3 +100,11 @@ pub struct State {
     pub value: u64,
     pub window: Window,
 }
+
+// Nothing kept: what a decoder has before the first point, and an encoder whose opening was refused.
+pub const NOTHING: State = State {
+    time: 0,
+    delta: 0,
+    value: 0,
+    window: Window { lead: 0, trail: 0 },
+};

@@ -4,4 +4,4 @@ use Rattle.layout.proofs.Window.has_no_digit.Goals as goal
 
 pub returns : goal.returns
 unfolding no_digit
-returns c = refl
+returns c = rw (c.from.ensures, c.from-2.ensures) refl
