@@ -1,5 +1,5 @@
-// Text that gathers in fixed memory, since no crate here has a heap for a `String` or a `Vec`. What is written is tested and not proved, so the contracts
-// say only how much there is.
+// Text that gathers in fixed memory, since no crate here has a heap for a `String` or a `Vec`; std's `InlineText` takes a `str` alone, and lines of the input
+// are bytes that may be none. What is written is tested and not proved, so the contracts say only how much there is.
 
 ghost use Rattle.std.specs.Prelude.{◌≤◌, ◌<◌, ◌+◌, ◌↔◌, ◌≡◌, min, length, IsTrue, IsOk, IfErr, OnOk};
 

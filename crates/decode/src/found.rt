@@ -48,6 +48,7 @@ fn read_first_time(p: Peeked, start: u64, window: Window) -> Result<Found, Refus
     ensures { found_of result ≡ from (first_time 6 start window) p.entry }
 {
     let (delta, rest) = p.read(14)?;
+    // no `checked_add`: an edit moves this bound by one, for which a sum has no place
     if u64::MAX - start < delta {
         return Err(Refusal::ReadTimePasses);
     }

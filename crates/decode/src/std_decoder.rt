@@ -35,7 +35,8 @@ pub struct StdDecoder {
     r: BufferedReader,
 }
 
-// A call's answer, and the decoder after it: of an opening, before the start, or ended with the refusal.
+// A call's answer, and the decoder after it: of an opening, before the start, or ended with the refusal. Like `Encoded`, `Reading` and `Written` it names
+// the state that it hands back; one pair for all of them would name none.
 #[derive(Clone, Copy)]
 pub struct Decoded<T> {
     pub answer: T,
@@ -85,7 +86,8 @@ fn stop(d: StdDecoder, answer: Step) -> Decoded<Step>
     Decoded { answer, decoder }
 }
 
-// What stands next in the buffer of a state that fits it.
+// What stands next in the buffer of a state that fits it. That it fits is a clause here and in unpack.rt: it is about a decoder and the buffer that a call
+// is lent. The one is handed back and the other is not, so a type of both would be taken apart for each answer.
 fn look(d: StdDecoder, buf: &[u8]) -> Result<Found, Refusal>
     requires { no_fit 6 (view d) (length buf.now) ≡ false }
     ensures { found_of result ≡ unplaced (onward 6 (view d) (bits buf.now)) }

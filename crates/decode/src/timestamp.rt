@@ -74,6 +74,7 @@ fn new_delta(delta: u64, field: RawDod) -> Result<u64, Refusal>
 {
     let dod = field.extend();
     let raw = field.raw;
+    // bounds, and no `checked_add`: the edits move each of them by one, for which a sum has no place
     let half: u64 = 1u64 << (field.width - 1);
     let all: u64 = 1u64 << field.width;
     if half < raw {
@@ -93,6 +94,7 @@ pub(super) fn new_time(time: u64, delta: u64, field: RawDod) -> Result<(u64, u64
     ensures { (q : ℕ) (s : List Bool) (f : ℕ → ℕ → Reader) → then_time q s result f ≡ comes_to (new_time time (pos delta +ℤ signed field.width field.raw) f) q s }
 {
     let next = new_delta(delta, field)?;
+    // a bound, as above
     if u64::MAX - time < next {
         return Err(Refusal::ReadTimePasses);
     }

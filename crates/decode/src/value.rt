@@ -40,7 +40,8 @@ fn read_window(p: Peeked) -> Result<Head, Refusal>
     Ok(Head::Digits(Window { lead, trail }, rest))
 }
 
-// Behind bit 1: a window is reused, or opened.
+// Behind bit 1: a window is reused, or opened. That a window has a digit is a clause from here on, in found.rt too, and no type of its own: a point is kept
+// as the layout's `State`, whose window an encoder has without a digit as well, so such a type would be made anew, and proved, for each point.
 fn read_xor(p: Peeked, w: Window) -> Result<Head, Refusal>
     requires trail_bound { w.lead + w.trail < 64 }
     ensures { ((v : ℕ) (f : Window → ℕ → Reader) → then_head v w result f ≡ from (read_xor 6 v w f) p.entry) × Sound p.entry.buf.now result }

@@ -1,5 +1,6 @@
 // A page of output: lines gather in it, and it goes to standard output when there is no room for one more. What is written is tested and not
-// proved, so the contracts say only where a page ends.
+// proved, so the contracts say only where a page ends. (The text of `answers` has as much in common with it as a size and a copy: a full page refuses a
+// line whole, a full text takes what fits. One type for both would have public calls, and document 01 wants of those that they state the text too.)
 
 ghost use Rattle.std.specs.Prelude.{◌≡◌, ◌≤◌, ◌<◌, ◌+◌, ◌↔◌, length, IsOk, OnOk, OnErr, IsTrue};
 ghost use Rattle.unpack.specs.declared.page.TheConstants.{PAGE};

@@ -34,7 +34,8 @@ fn stopped(given: usize, d: StdDecoder, answer: Step) -> Unpacked
     }
 }
 
-// Points that follow another, into the entries from one on.
+// Points that follow another, into the entries from one on. That both lists have n entries is a clause, here and in the two below, and no struct of lists
+// and n: the C interface hands over two lists, and what they hold before and after is told of each.
 fn unpack_later(
     d: StdDecoder,
     buf: &[u8],
