@@ -45,14 +45,12 @@ impl Refusal {
             Refusal::NoFit => 13,
         }
     }
-}
 
-// The name that the table gives it.
-impl fmt::Display for Refusal {
-    ghost output = { λ r. Some (name_of r) };
-
-    fn fmt<W: fmt::Write>(&self, f: &mut fmt::Formatter<W>) -> fmt::Result {
-        f.write_str(match self {
+    // The name that the table gives it.
+    pub fn name(self) -> &'static str
+        ensures { result.now ≡ name_of self }
+    {
+        match self {
             Refusal::NoRoom => "no room",
             Refusal::TimeFalls => "time falls",
             Refusal::FirstDelta => "first delta",
@@ -66,7 +64,16 @@ impl fmt::Display for Refusal {
             Refusal::ReadTimePasses => "read time passes",
             Refusal::Closed => "closed",
             Refusal::NoFit => "no fit",
-        })
+        }
+    }
+}
+
+// Its name. Where that is written and where the writer fails is std's to say: the clause is that of every `Display`.
+impl fmt::Display for Refusal {
+    ghost output = { λ r. Some (name_of r) };
+
+    fn fmt<W: fmt::Write>(&self, f: &mut fmt::Formatter<W>) -> fmt::Result {
+        f.write_str(self.name())
     }
 }
 
