@@ -13,14 +13,14 @@ use layout::{Row, Window};
 
 // The len low bits of a number, the highest first. No higher bit is set: `Short` says so in the contracts. As a ghost field it was tried, and that two codes
 // with the same numbers are one (`code_told`) did not close.
-#[derive(Clone, Copy, Debug, PartialEq, Eq)]
+#[derive(Clone, Copy, PartialEq, Eq)]
 pub struct Code {
     pub bits: u64,
     pub len: u32,
 }
 
 // The code of a point: what stands before the digits of its value, at most 50 bits; the digits, at most 64; and the window after them.
-#[derive(Clone, Copy, Debug, PartialEq, Eq)]
+#[derive(Clone, Copy, PartialEq, Eq)]
 pub struct PointCode {
     pub head: Code,
     pub digits: Code,

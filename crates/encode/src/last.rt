@@ -12,7 +12,7 @@ use point::Stored;
 use stream::Refusal;
 
 // What the code of a point depends on: what is kept of the last point; before the first point its time is the start.
-#[derive(Clone, Copy, Debug, PartialEq, Eq)]
+#[derive(Clone, Copy, PartialEq, Eq)]
 pub struct Last {
     pub kept: State,
     // no Option of a last point: before the first one a time and a window are kept too, and document 01 has a state's fields zero where it is closed

@@ -7,7 +7,7 @@ ghost use Rattle.layout.specs.Rows as format;
 ghost use Rattle.layout.specs.Windows.{no_digit, bad_window};
 
 // A row: its control bits, the bits of its field, and the dods that it takes.
-#[derive(Clone, Copy, Debug, PartialEq, Eq)]
+#[derive(Clone, Copy, PartialEq, Eq)]
 pub struct Row {
     pub prefix: u64,
     pub prefix_len: u32,
@@ -67,7 +67,7 @@ impl Row {
 }
 
 // How many zeros stand above the digits of a value's xor, and how many below.
-#[derive(Clone, Copy, Debug, PartialEq, Eq)]
+#[derive(Clone, Copy, PartialEq, Eq)]
 pub struct Window {
     pub lead: u32,
     pub trail: u32,
@@ -93,7 +93,7 @@ impl Window {
 }
 
 // What both ends keep of a point: its time, the delta that led to it, its value's bits, and the window after it.
-#[derive(Clone, Copy, Debug, PartialEq, Eq)]
+#[derive(Clone, Copy, PartialEq, Eq)]
 pub struct State {
     pub time: u64,
     pub delta: u64,

@@ -1,4 +1,4 @@
-// A test: each refusal's number, its name, and what `{}` writes of it. What it must print is document 01's table.
+// A test: each refusal's number, its name, and what `{}` and `{:?}` write of it. What it must print is document 01's table.
 
 #![tactic(auto)]
 
@@ -24,7 +24,7 @@ const ALL: [Refusal; 13] = [
 fn main(rt: HostRuntime) -> io::Result<()> {
     let out = rt.stdout();
     for why in ALL {
-        println!(out; "{} | {} | {why}", why.number(), why.name())?;
+        println!(out; "{} | {} | {why} | {why:?}", why.number(), why.name())?;
     }
     Ok(())
 }

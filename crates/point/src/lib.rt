@@ -11,14 +11,14 @@ use std::cmp::Ordering;
 use std::num::{f64_from_bits_with_nan, f64_to_bits_with_nan};
 
 // A time and a value, as in the Rust. Round trips are about `Stored`, since a float here keeps no payload of a NaN.
-#[derive(Clone, Copy, Debug)]
+#[derive(Clone, Copy)]
 pub struct DataPoint {
     time: u64,
     value: f64,
 }
 
 // A time and the bits of a value: what streams hold.
-#[derive(Clone, Copy, Debug, PartialEq, Eq)]
+#[derive(Clone, Copy, PartialEq, Eq)]
 pub struct Stored {
     pub time: u64,
     pub bits: u64,

@@ -1,4 +1,4 @@
-// What the test programs print of a refusal, an answer, a point, a decoder's step and bytes: each type says by `Display` what `{}` of it writes.
+// What test programs print of a refusal, an answer, a point, a decoder's step and bytes: each type says by `Display` what `{}` of it writes.
 
 #![tactic(auto)]
 

@@ -22,7 +22,7 @@ pub use refusal::Refusal;
 pub const LIMIT: usize = 16_777_216;
 
 // A single bit.
-#[derive(Clone, Copy, Debug, PartialEq, Eq)]
+#[derive(Clone, Copy, PartialEq, Eq)]
 pub enum Bit {
     Zero,
     One,

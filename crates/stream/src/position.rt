@@ -8,11 +8,11 @@ use super::LIMIT;
 use super::refusal::Refusal;
 
 // A place among the bits of a buffer: how many bits lie before it.
-#[derive(Clone, Copy, Debug, PartialEq, Eq)]
+#[derive(Clone, Copy, PartialEq, Eq)]
 pub struct BitPos(pub(super) usize);
 
 // A number of bytes.
-#[derive(Clone, Copy, Debug, PartialEq, Eq)]
+#[derive(Clone, Copy, PartialEq, Eq)]
 pub struct ByteCount(pub(super) usize);
 
 impl BitPos {

@@ -7,7 +7,7 @@ use std::error::Error;
 use std::fmt;
 
 // The names of the table, in its order.
-#[derive(Clone, Copy, Debug, PartialEq, Eq)]
+#[derive(Clone, Copy, PartialEq, Eq)]
 pub enum Refusal {
     NoRoom,
     TimeFalls,
@@ -68,12 +68,21 @@ impl Refusal {
     }
 }
 
-// Its name. Where that is written and where the writer fails is std's to say: the clause is that of every `Display`.
+// Its name. Whether a write fails is the writer's to say: std's clause is silent where `fmt` answers `Err`.
 impl fmt::Display for Refusal {
     ghost output = { λ r. Some (name_of r) };
 
     fn fmt<W: fmt::Write>(&self, f: &mut fmt::Formatter<W>) -> fmt::Result {
         f.write_str(self.name())
+    }
+}
+
+// The same, since std wants it of an error. Not derived: of what a derived one writes, no clause says anything.
+impl fmt::Debug for Refusal {
+    ghost debug_output = { λ r. Some (name_of r) };
+
+    fn fmt<W: fmt::Write>(&self, f: &mut fmt::Formatter<W>) -> fmt::Result {
+        fmt::Display::fmt(self, f)
     }
 }
 
